@@ -1,0 +1,4 @@
+pub mod Lists
+pub mod Kinds
+pub mod Circuits
+pub mod Tests

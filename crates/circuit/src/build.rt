@@ -1,0 +1,4 @@
+// Circuits, built gate by gate.
+pub enum Admission {
+    Taken,
+}
