@@ -2,7 +2,7 @@
 --   Gate, Circuit     a gate by its kind and operands; a circuit by its number of inputs, its gates in order, and the signals at its outputs
 --   there             whether a signal is an input, or one of the first gates
 --   fits, wired       whether a gate, or a row of gates, may come after so many others
---   operands, gate    what the code's tables hold
+--   operandsOf, gateOf   what the code's tables hold
 --   withGate, ..      a circuit with one input, gate or output more
 --   Sound             a circuit within the limits, whose operands come before their gates and whose outputs are signals of it
 use mathlib.Core.Path.{_≡_}
@@ -62,8 +62,8 @@ pub record Sound (c : Circuit) : Type 0 where
   pub shown : all (there (c .inputs) (length (c .gates))) (c .outputs) ≡ true
 
 -- ── what the code's tables hold ──
-abbrev pub operands : Operands → List Signal
-operands o = take (o .count) (o .signals)
+abbrev pub operandsOf : Operands → List Signal
+operandsOf o = take (o .count) (o .signals)
 
-abbrev pub gate : HeldGate → Gate
-gate g = record { kind = g .kind; operands = operands (g .operands) }
+abbrev pub gateOf : HeldGate → Gate
+gateOf g = record { kind = g .kind; operands = operandsOf (g .operands) }

@@ -5,7 +5,7 @@ ghost use mathlib.Core.Path.{_≡_};
 ghost use mathlib.Core.Bool.{true};
 ghost use Rattle.std.specs.Of.Vec.{vec-cap, vec-items, vec-len};
 ghost use Rattle.circuit.specs.Lists.{all};
-ghost use Rattle.circuit.specs.Circuits.{gate, there, wired};
+ghost use Rattle.circuit.specs.Circuits.{gateOf, there, wired};
 use crate::gate::Gate;
 use crate::gate::Signal;
 
@@ -17,7 +17,7 @@ pub struct Circuit {
     ghost few_inputs: { inputs ≤ 64 },
     ghost few_gates: { vec-len gates ≤ 256 },
     ghost few_outputs: { vec-len outputs ≤ 64 },
-    ghost in_order: { wired inputs 0 (map gate (vec-items gates)) ≡ true },
+    ghost in_order: { wired inputs 0 (map gateOf (vec-items gates)) ≡ true },
     ghost shown: { all (there inputs (vec-len gates)) (vec-items outputs) ≡ true },
     ghost gate_room: { 256 ≤ vec-cap gates },
     ghost output_room: { 64 ≤ vec-cap outputs },

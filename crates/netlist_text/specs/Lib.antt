@@ -1,0 +1,4 @@
+pub mod Words
+pub mod Statements
+pub mod Netlists
+pub mod Meaning
