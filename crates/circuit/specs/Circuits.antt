@@ -2,7 +2,7 @@
 --   Gate, Circuit     a gate by its kind and operands; a circuit by its number of inputs, its gates in order, and the signals at its outputs
 --   there             whether a signal is an input, or one of the first gates
 --   fits, wired       whether a gate, or a row of gates, may come after so many others
---   operandsOf, gateOf   what the code's tables hold
+--   gateOf            the gate that the code's table holds
 --   withGate, ..      a circuit with one input, gate or output more
 --   Sound             a circuit within the limits, whose operands come before their gates and whose outputs are signals of it
 use mathlib.Core.Path.{_≡_}
@@ -10,14 +10,14 @@ use mathlib.Core.Bool.{Bool, true, _&&_}
 use mathlib.Core.List.{List, [], _∷_, _++_, map}
 use Prim.Native.Nat.{ℕ, suc, _≤_}
 use lib.Dec.{leb}
-use lib.ListN.{length, take}
+use lib.ListN.{length}
 use Rattle.circuit.specs.declared.kind.Kind.{Kind}
 use Rattle.circuit.specs.declared.gate.Signal.{Signal}
 use Rattle.circuit.specs.declared.gate.Signal.the-variants as signal
-use Rattle.circuit.specs.declared.gate.Operands.{Operands}
 use Rattle.circuit.specs.declared.gate.Gate.{Gate as HeldGate}
 use Rattle.circuit.specs.Kinds.{takes}
 use Rattle.circuit.specs.Lists.{all}
+use Rattle.circuit.specs.Listed.{listed}
 
 pub record Gate : Type 0 where
   pub kind : Kind
@@ -61,9 +61,5 @@ pub record Sound (c : Circuit) : Type 0 where
   pub in-order : wired (c .inputs) 0 (c .gates) ≡ true
   pub shown : all (there (c .inputs) (length (c .gates))) (c .outputs) ≡ true
 
--- ── what the code's tables hold ──
-abbrev pub operandsOf : Operands → List Signal
-operandsOf o = take (o .count) (o .signals)
-
 abbrev pub gateOf : HeldGate → Gate
-gateOf g = record { kind = g .kind; operands = operandsOf (g .operands) }
+gateOf g = record { kind = g .kind; operands = listed (g .operands) }

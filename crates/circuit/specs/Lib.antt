@@ -1,4 +1,5 @@
 pub mod Lists
+pub mod Listed
 pub mod Kinds
 pub mod Circuits
 pub mod Held

@@ -1,40 +1,25 @@
-// A gate's operands, added one after another.
+// A gate's operands, as signals or still as names. No kind takes more than eight.
+ghost use Prim.Native.Nat.{_≤_};
 ghost use mathlib.Core.Path.{_≡_};
-ghost use mathlib.Core.Bool.{cond};
-ghost use mathlib.Core.List.{[], _∷_, _++_};
-ghost use lib.Dec.{ltb};
 ghost use lib.ListN.{length};
-ghost use Rattle.circuit.specs.Circuits.{operandsOf};
-use crate::gate::Operands;
-use crate::gate::Signal;
+use std::alloc::AllocError;
 
-impl Operands {
-    pub fn none() -> Operands
-        ensures { λ r. ⌜ operandsOf r ≡ [] ⌝ }
-    {
-        Operands {
-            signals: [Signal::Input(0); 8],
-            count: 0,
-        }
-    }
+// The first `count` of the places are taken.
+pub struct Operands<T: Copy> {
+    pub(crate) places: [T; 8],
+    pub(crate) count: usize,
+    ghost eight: { length places ≡ 8 },
+    ghost few: { count ≤ 8 },
+}
 
-    // Adds an operand at the end; false where there are eight already.
-    pub fn push(&mut self, signal: Signal) -> bool
-        ensures value { λ r. ⌜ r ≡ ltb (length (operandsOf (now (self .entry)))) 8 ⌝ }
-        ensures after { λ r. ⌜ operandsOf (now (self .exit)) ≡ cond r (operandsOf (now (self .entry)) ++ signal ∷ []) (operandsOf (now (self .entry))) ⌝ }
-    {
-        let at = self.count;
-        if at >= 8 {
-            return false;
-        }
-        self.signals[at] = signal;
-        self.count = at + 1;
-        true
-    }
+impl<T: Copy> Copy for Operands<T> {}
 
-    pub fn as_slice(&self) -> &[Signal]
-        ensures { λ r. ⌜ now r ≡ operandsOf (now (self .entry)) ⌝ }
-    {
-        &self.signals[0..self.count]
+pub impl<T: Copy> Clone for Operands<T> as OperandsClone {
+    ghost clones = { λ from to. to ≡ from };
+
+    ghost sure = { λ _. Unit {0} };
+
+    fn clone(&self) -> Result<Operands<T>, AllocError> {
+        Ok(*self)
     }
 }

@@ -3,9 +3,10 @@
 --   stray      the column of the first byte that may not stand in a line
 --   skipped    whether a line is empty or a comment
 --   lexemes    the words and signs of a line, in order
+--   lineLen, wordLen   how far the first line, the first word reaches
 use mathlib.Core.Bool.{Bool, true, false, cond, _||_}
 use mathlib.Core.List.{List, [], _∷_}
-use Prim.Native.Nat.{ℕ, _+_}
+use Prim.Native.Nat.{ℕ, suc, _+_}
 use lib.Dec.{eqb}
 use Rattle.std.specs.Text.{asciiAlnum}
 use Rattle.std.specs.declared.option.Option.{Option}
@@ -65,3 +66,12 @@ lexeme b more ts = cond (eqb b 32) ts (cond (nameByte b) (cond more (inWord b ts
 abbrev pub lexemes : List ℕ → List Lexeme
 lexemes [] = []
 lexemes (b ∷ bs) = lexeme b (startsName bs) (lexemes bs)
+
+-- ── lengths ──
+abbrev pub lineLen : List ℕ → ℕ
+lineLen [] = 0
+lineLen (b ∷ bs) = cond (eqb b 10) 0 (suc (lineLen bs))
+
+abbrev pub wordLen : List ℕ → ℕ
+wordLen [] = 0
+wordLen (b ∷ bs) = cond (nameByte b) (suc (wordLen bs)) 0

@@ -1,0 +1,18 @@
+// The words and signs of a netlist's lines, and the statements that they form.
+mod bytes;
+mod name;
+mod naming;
+mod scanner;
+mod statement;
+mod token;
+mod tokens;
+
+pub use bytes::check_bytes;
+pub use bytes::line_len;
+pub use name::Name;
+pub use naming::same_name;
+pub use scanner::Scanner;
+pub use scanner::Statement;
+pub use token::ScanFault;
+pub use token::ScanFaultDebug;
+pub use token::Token;
