@@ -1,3 +1,4 @@
 pub mod Scanned
 pub mod Named
 pub mod Stepped
+pub mod Parsed

@@ -25,7 +25,7 @@ fn is_line_byte(b: u8) -> bool
 }
 
 // Whether every byte may stand in a line; the first that may not is the fault.
-pub fn check_bytes(line: &[u8]) -> Result<(), ScanFault>
+pub(crate) fn check_bytes(line: &[u8]) -> Result<(), ScanFault>
     ensures { λ r. ⌜ column r ≡ stray 1 (now (line .entry)) ⌝ }
 {
     for (i, b) in line.iter().enumerate() {

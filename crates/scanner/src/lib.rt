@@ -2,17 +2,16 @@
 mod bytes;
 mod name;
 mod naming;
+mod parser;
 mod scanner;
 mod statement;
 mod token;
 mod tokens;
 
-pub use bytes::check_bytes;
 pub use bytes::line_len;
 pub use name::Name;
 pub use naming::same_name;
-pub use scanner::Scanner;
-pub use scanner::Statement;
+pub use parser::parse;
+pub use statement::Statement;
 pub use token::ScanFault;
 pub use token::ScanFaultDebug;
-pub use token::Token;

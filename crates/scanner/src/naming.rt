@@ -12,6 +12,11 @@ use crate::name::Name;
 const NAME_BYTES: usize = 16;
 
 impl Name {
+    pub(crate) const EMPTY: Name = Name {
+        bytes: [0; NAME_BYTES],
+        len: 0,
+    };
+
     // The name that a word spells, unless it is too long for one.
     pub fn of(word: &[u8]) -> Option<Name>
         ensures { λ r. ⌜ mapped nameOf r ≡ cond (isName (now (word .entry))) (Some (now (word .entry))) None ⌝ }

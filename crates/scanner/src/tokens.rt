@@ -2,13 +2,11 @@
 ghost use mathlib.Core.Path.{_≡_};
 ghost use mathlib.Core.Bool.{false};
 ghost use Rattle.std.specs.Options.{isSome};
-ghost use Rattle.netlist_text.specs.Words.{stray, lexemes};
+ghost use Rattle.netlist_text.specs.Words.{stray};
 ghost use Rattle.scanner.specs.Scanned.{Scanned};
-ghost use Rattle.scanner.specs.Stepped.{Opened, Stepped};
-use crate::bytes::check_bytes;
+ghost use Rattle.scanner.specs.Stepped.{Stepped};
 use crate::bytes::word_len;
 use crate::scanner::Scanner;
-use crate::token::ScanFault;
 use crate::token::Token;
 
 // The next token from a place on, and the place after it. The line has only bytes that may stand in one.
@@ -37,16 +35,8 @@ fn next_token<'a>(line: &'a [u8], at: usize) -> Option<(Token<'a>, usize)>
 }
 
 impl<'a> Scanner<'a> {
-    // A scanner at the start of a line, or the line's first byte that may not stand there.
-    pub fn new(line: &'a [u8]) -> Result<Scanner<'a>, ScanFault>
-        ensures { λ r. ⌜ Opened (now (line .entry)) r ⌝ }
-    {
-        check_bytes(line)?;
-        Ok(Scanner { line, at: 0 })
-    }
-
     // The next token, or None at the end of the line.
-    pub fn next_token(&mut self) -> Option<Token<'a>>
+    pub(crate) fn next_token(&mut self) -> Option<Token<'a>>
         ensures { λ r. ⌜ Stepped (now (self .entry)) (now (self .exit)) r ⌝ }
     {
         let line = self.line;
