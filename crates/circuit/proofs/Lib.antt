@@ -1,2 +1,3 @@
+pub mod Few
 pub mod Tested
 pub mod Wiring

@@ -1,0 +1,3 @@
+pub mod Found
+pub mod Admitted
+pub mod Lined
