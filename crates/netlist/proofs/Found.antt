@@ -2,18 +2,22 @@
 use mathlib.Core.Path.{_≡_, refl, sym, ap, _∙_}
 use mathlib.Core.Bool.{Bool, true, false, cond}
 use mathlib.Core.List.{List, [], _∷_, _++_, map, append-assoc}
-use Prim.Native.Nat.{ℕ, suc, _+_, _<_, _≤_}
+use mathlib.Core.Logic.{_⊎_, ⊎-elim}
+use Prim.Native.Nat.{ℕ, zero, suc, _+_, _-_, _<_, _≤_}
+use native.Mathlib.Omega.{arith}
 use lib.ListN.{length, drop, getD}
 use Rattle.std.specs.Options.{mapped}
 use Rattle.std.specs.declared.option.Option.{Option}
 use Rattle.std.specs.declared.option.Option.the-variants.{Some, None}
-use Rattle.std.proofs.shelf.Lists.{at-drop-more, at-drop-all, append-nil}
+use Rattle.std.proofs.shelf.Lists.{at-drop-more, at-drop-all, append-nil, length-map, getD-map}
+use Rattle.std.proofs.shelf.Maps.{nth-past, nth-getD}
 use Rattle.std.proofs.shelf.Tests.{cond-true, cond-false}
 use Rattle.circuit.specs.declared.gate.Signal.{Signal}
 use Rattle.netlist_text.specs.Statements.{Name}
 use Rattle.netlist_text.specs.Netlists.{Netlist, sameName, find, signal, joinedTo, signals}
 use Rattle.scanner.specs.declared.name.Name.{Name as HeldName}
 use Rattle.scanner.specs.Named.{nameOf}
+use Rattle.netlist.specs.Held.{nameAt}
 
 pub find-here : (xs : List HeldName) (i : ℕ) (w : List ℕ) (x : HeldName) → i < length xs → x ≡ getD xs i x → true ≡ sameName (nameOf x) w → find (i + 1) (map nameOf (drop i xs)) w ≡ Some (i + 1)
 find-here xs i w x h is e =
@@ -54,3 +58,14 @@ module _ (n : Netlist) (xs : List HeldName) (i : ℕ) (x : HeldName) (within : i
 
 pub signals-all : (n : Netlist) (xs : List HeldName) (i : ℕ) (found : List Signal) → length xs ≤ i → joinedAfter found (signals n (map nameOf (drop i xs))) ≡ Some found
 signals-all n xs i found h = at-drop-all (λ ys. joinedAfter found (signals n (map nameOf ys))) xs i h ∙ ap (λ (l : List Signal). Some l) (append-nil found)
+
+-- ── the name of a number ──
+pub name-missing : (xs : List HeldName) (k : ℕ) → (k ≡ 0) ⊎ ((k ≡ 0 → ⊥) × (length xs < k)) → None ≡ nameAt (map nameOf xs) k
+name-missing xs zero h = refl
+name-missing xs (suc i) h = sym (nth-past (map nameOf xs) i (⊎-elim (λ z. absurd (omega arith)) (λ p. omega (arith, length-map xs nameOf, p .1)) h))
+
+pub name-here : (xs : List HeldName) (k : ℕ) (x : HeldName) → (k ≡ 0 → ⊥) → k ≤ length xs → x ≡ getD xs (k - 1) x → Some (nameOf x) ≡ nameAt (map nameOf xs) k
+name-here xs zero x h l is = absurd (h refl)
+name-here xs (suc i) x h l is =
+    let at : x ≡ getD xs i x = is ∙ ap (λ j. getD xs j x) (let e : suc i - 1 ≡ i = omega arith in e) in
+    sym (nth-getD (map nameOf xs) i (nameOf x) (omega (arith, length-map xs nameOf)) ∙ ap (λ (n : Name). Some n) (getD-map nameOf xs i x (nameOf x) (omega arith) ∙ ap nameOf (sym at)))
