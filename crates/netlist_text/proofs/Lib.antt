@@ -1,3 +1,4 @@
 pub mod Lexing
 pub mod Signals
 pub mod WrittenWords
+pub mod WrittenLines
