@@ -2,3 +2,4 @@ pub mod Lexing
 pub mod Signals
 pub mod WrittenWords
 pub mod WrittenLines
+pub mod FoundNames
