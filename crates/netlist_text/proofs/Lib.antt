@@ -3,3 +3,4 @@ pub mod Signals
 pub mod WrittenWords
 pub mod WrittenLines
 pub mod FoundNames
+pub mod NamedSignals
