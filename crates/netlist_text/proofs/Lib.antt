@@ -4,3 +4,4 @@ pub mod WrittenWords
 pub mod WrittenLines
 pub mod FoundNames
 pub mod NamedSignals
+pub mod WrittenLength
