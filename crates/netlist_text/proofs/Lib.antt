@@ -5,3 +5,4 @@ pub mod WrittenLines
 pub mod FoundNames
 pub mod NamedSignals
 pub mod WrittenLength
+pub mod WrittenNetlist

@@ -29,7 +29,7 @@ admittedAll line d [] = Ok d
 admittedAll line d (s ∷ ss) = andThen (onLine line (admitted d line s)) (λ e. admittedAll (line + 1) e ss)
 
 -- ── each byte may stand in a line ──
-all-append : {A : Type 0} (p : A → Bool) (xs ys : List A) → all p xs ≡ true → all p ys ≡ true → all p (xs ++ ys) ≡ true
+pub all-append : {A : Type 0} (p : A → Bool) (xs ys : List A) → all p xs ≡ true → all p ys ≡ true → all p (xs ++ ys) ≡ true
 all-append p [] ys a b = b
 all-append p (x ∷ xs) ys a b = let h = and-parts (p x) (all p xs) a in and-from (p x) (all p (xs ++ ys)) (h .0) (all-append p xs ys (h .1) b)
 
