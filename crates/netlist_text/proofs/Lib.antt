@@ -6,3 +6,4 @@ pub mod FoundNames
 pub mod NamedSignals
 pub mod WrittenLength
 pub mod WrittenNetlist
+pub mod AdmittedStatements
