@@ -7,3 +7,4 @@ pub mod NamedSignals
 pub mod WrittenLength
 pub mod WrittenNetlist
 pub mod AdmittedStatements
+pub mod ShownOutputs

@@ -37,7 +37,7 @@ takes-bounds Xor m e = let h = eqb-true m 2 e in (omega arith, omega arith)
 takes-bounds Xnor m e = let h = eqb-true m 2 e in (omega arith, omega arith)
 takes-bounds Not m e = let h = eqb-true m 1 e in (omega arith, omega arith)
 
-some-from-length : {A : Type 0} (xs : List A) → 1 ≤ length xs → not (none xs) ≡ true
+pub some-from-length : {A : Type 0} (xs : List A) → 1 ≤ length xs → not (none xs) ≡ true
 some-from-length [] h = absurd (omega arith)
 some-from-length (x ∷ xs) h = refl
 
