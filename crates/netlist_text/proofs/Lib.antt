@@ -8,3 +8,4 @@ pub mod WrittenLength
 pub mod WrittenNetlist
 pub mod AdmittedStatements
 pub mod ShownOutputs
+pub mod ReadsBack
