@@ -1,27 +1,24 @@
 -- The statements of a sound netlist's inputs and gates are admitted one after another, and give those inputs and gates.
 --   Completes    these statements, from this line and draft on, give the netlist
---   inputsOnly   the draft of these inputs
+--   ofInputs     the draft of so many inputs with these names
 --   upTo         the draft of a netlist's inputs, of the first of its gates, and of OUTPUT lines
 use mathlib.Core.Path.{_≡_, refl, sym, ap, subst, _∙_}
-use mathlib.Core.Bool.{Bool, true, false, not, cond, _&&_}
+use mathlib.Core.Bool.{Bool, true, not}
 use mathlib.Core.List.{List, [], _∷_, _++_, map}
-use Prim.Native.Nat.{ℕ, zero, suc, _+_, _<_, _≤_}
+use Prim.Native.Nat.{ℕ, suc, _+_, _<_, _≤_}
 use native.Mathlib.Omega.{arith}
-use lib.Dec.{ltb}
 use lib.ListN.{length, getD}
 use Rattle.std.specs.Options.{isSome}
-use Rattle.std.specs.declared.option.Option.{Option}
-use Rattle.std.specs.declared.option.Option.the-variants.{Some, None}
+use Rattle.std.specs.declared.option.Option.the-variants.{None}
 use Rattle.std.specs.declared.result.Result.{Result}
 use Rattle.std.specs.declared.result.Result.the-variants.{Ok, Err}
 use Rattle.std.proofs.shelf.Lists.{append-nil, append-assoc, length-append, length-map, length-push, getD-at}
 use Rattle.std.proofs.shelf.Tests.{cond-true, and-parts, lt-ltb}
-use Rattle.circuit.specs.declared.gate.Signal.{Signal}
 use Rattle.circuit.specs.Kinds.{takes}
 use Rattle.circuit.specs.Lists.{all}
 use Rattle.circuit.specs.Circuits.{Gate, there, fits, wired}
 use Rattle.circuit.proofs.Wiring.{all-there-more}
-use Rattle.netlist_text.specs.Statements.{Name, Statement, input, output, gate}
+use Rattle.netlist_text.specs.Statements.{Name, Statement, input, gate}
 use Rattle.netlist_text.specs.Netlists.{Netlist, OutputLine, Draft, find, either, signal, signals}
 use Rattle.netlist_text.specs.Meaning.{inputAdded, gateAdded, ask, new, connected, admitted, onLine, andThen, finished}
 use Rattle.netlist_text.specs.Law.{Distinct, SoundNetlist}
@@ -33,8 +30,12 @@ use Rattle.netlist_text.proofs.NamedSignals.{Begins, signals-of-names}
 abbrev pub Completes : Netlist → ℕ → Draft → List Statement → Type 0
 Completes n line d ss = andThen (admittedAll line d ss) finished ≡ Ok n
 
+abbrev pub ofInputs : ℕ → List Name → Draft
+ofInputs i xs = record { netlist = record { circuit = record { inputs = i; gates = []; outputs = [] }; inputNames = xs; gateNames = [] }; outputs = [] }
+
+-- as many inputs as names
 abbrev pub inputsOnly : List Name → Draft
-inputsOnly xs = record { netlist = record { circuit = record { inputs = length xs; gates = []; outputs = [] }; inputNames = xs; gateNames = [] }; outputs = [] }
+inputsOnly xs = ofInputs (length xs) xs
 
 abbrev pub upTo : Netlist → List Name → List Gate → List OutputLine → Draft
 upTo n ws gs os = record { netlist = record { circuit = record { inputs = n .circuit .inputs; gates = gs; outputs = [] }; inputNames = n .inputNames; gateNames = ws }; outputs = os }
@@ -54,10 +55,9 @@ length-push-suc xs x = omega (arith, length-push xs x)
 -- ── inputs ──
 input-admitted : (xs : List Name) (w : Name) (ws : List Name) (line : ℕ) → Distinct (xs ++ w ∷ ws) → length xs < 64 → admitted (inputsOnly xs) line (input w) ≡ Ok (inputsOnly (xs ++ w ∷ []))
 input-admitted xs w ws line d h =
-    let room = ask 8 (ltb (length xs) 64) (Ok (inputAdded (inputsOnly xs) w)) in
-    asked 6 (new (inputsOnly xs) w) room (new-when-none (inputsOnly xs) w (ap (λ o. either o None) (new-name xs w ws d)))
-    ∙ asked 8 (ltb (length xs) 64) (Ok (inputAdded (inputsOnly xs) w)) (lt-ltb (length xs) 64 h)
-    ∙ ap (λ k. Ok (record { netlist = record { circuit = record { inputs = k; gates = []; outputs = [] }; inputNames = xs ++ w ∷ []; gateNames = [] }; outputs = [] })) (length-push-suc xs w)
+    asked 6 (new (inputsOnly xs) w) _ (new-when-none (inputsOnly xs) w (ap (λ o. either o None) (new-name xs w ws d)))
+    ∙ asked 8 _ (Ok (inputAdded (inputsOnly xs) w)) (lt-ltb (length xs) _ (omega arith))
+    ∙ ap (λ i. Ok (ofInputs i (xs ++ w ∷ []))) (length-push-suc xs w)
 
 pub inputs-admitted : (n : Netlist) (line : ℕ) (xs ws : List Name) (rest : List Statement) → Distinct (xs ++ ws) → length (xs ++ ws) ≤ 64 → ((l : ℕ) → Completes n l (inputsOnly (xs ++ ws)) rest) → Completes n line (inputsOnly xs) (map input ws ++ rest)
 inputs-admitted n line xs [] rest d few go = subst (λ (ys : List Name). Completes n line (inputsOnly ys) rest) (append-nil xs) (go line)
@@ -88,7 +88,7 @@ module _ (n : Netlist) (sound : SoundNetlist n) where
       asked 5 (takes (g .kind) (length names)) _ (ap (takes (g .kind)) (length-map (g .operands) (nameOf n)) ∙ p .0)
       ∙ asked 6 (new d w) (connected d w (g .kind) (signals (d .netlist) names)) (gate-new ws gs w vs e)
       ∙ ap (connected d w (g .kind)) (signals-of-names (d .netlist) n begins sound (g .operands) there-now)
-      ∙ asked 8 (ltb (length gs) 256) (Ok (gateAdded d w (g .kind) (g .operands))) (lt-ltb (length gs) 256 few)
+      ∙ asked 8 _ (Ok (gateAdded d w (g .kind) (g .operands))) (lt-ltb (length gs) _ (omega arith))
 
   pub gates-admitted : (line : ℕ) (ws vs : List Name) (gs hs : List Gate) (rest : List Statement) → ws ++ vs ≡ n .gateNames → gs ++ hs ≡ n .circuit .gates → length ws ≡ length gs → wired (n .circuit .inputs) (length gs) hs ≡ true → ((l : ℕ) → Completes n l (upTo n (n .gateNames) (n .circuit .gates) []) rest) → Completes n line (upTo n ws gs []) (gateStatements n vs hs ++ rest)
   gates-admitted line ws [] gs [] rest e f same wd go =

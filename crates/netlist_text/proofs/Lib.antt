@@ -1,5 +1,6 @@
 pub mod Lexing
 pub mod Signals
+pub mod Tested
 pub mod WrittenWords
 pub mod WrittenLines
 pub mod FoundNames

@@ -1,13 +1,12 @@
 -- In a sound netlist the name of a signal is good, and gives back that signal, also while later gates are yet to come.
 --   Begins   a netlist with the inputs of another and the first of its gates
 use mathlib.Core.Path.{_≡_, refl, sym, ap, subst, _∙_}
-use mathlib.Core.Bool.{Bool, true, false, _&&_}
+use mathlib.Core.Bool.{true, _&&_}
 use mathlib.Core.List.{List, [], _∷_, _++_, map}
-use Prim.Native.Nat.{ℕ, zero, suc, _+_, _<_, _≤_}
+use Prim.Native.Nat.{ℕ, zero, suc, _<_, _≤_}
 use native.Mathlib.Omega.{arith}
 use lib.Dec.{leb}
 use lib.ListN.{length, getD}
-use Rattle.std.specs.declared.option.Option.{Option}
 use Rattle.std.specs.declared.option.Option.the-variants.{Some, None}
 use Rattle.std.proofs.shelf.Lists.{append-nil, length-append}
 use Rattle.std.proofs.shelf.Tests.{and-parts, and-from, leb-true}
@@ -18,7 +17,7 @@ use Rattle.circuit.specs.Circuits.{there}
 use Rattle.circuit.proofs.Tested.{all-at}
 use Rattle.netlist_text.specs.Statements.{Name}
 use Rattle.netlist_text.specs.Netlists.{Netlist, find, either, signal, joinedTo, signals}
-use Rattle.netlist_text.specs.Law.{goodName, Distinct, Apart, SoundNetlist}
+use Rattle.netlist_text.specs.Law.{goodName, Distinct, SoundNetlist}
 use Rattle.netlist_text.specs.Written.{nameOf}
 use Rattle.netlist_text.proofs.FoundNames.{own-number, other-names}
 

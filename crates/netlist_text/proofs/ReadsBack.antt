@@ -1,27 +1,25 @@
 -- The text of a sound netlist reads back as that netlist.
 use mathlib.Core.Path.{_≡_, refl, sym, ap, subst, _∙_}
-use mathlib.Core.Bool.{true}
-use mathlib.Core.List.{List, [], _∷_, _++_, map}
-use Prim.Native.Nat.{ℕ, _≤_}
+use mathlib.Core.List.{[], _++_, map}
 use native.Mathlib.Omega.{arith}
 use lib.Dec.{leb}
 use lib.ListN.{length}
-use Rattle.std.specs.declared.result.Result.the-variants.{Ok, Err}
+use Rattle.std.specs.declared.result.Result.the-variants.{Err}
 use Rattle.std.proofs.shelf.Tests.{cond-true, le-leb}
 use Rattle.netlist_text.specs.Words.{lines}
-use Rattle.netlist_text.specs.Statements.{Name, output}
+use Rattle.netlist_text.specs.Statements.{output}
 use Rattle.netlist_text.specs.Netlists.{Netlist, Draft, blank}
 use Rattle.netlist_text.specs.Meaning.{refusal, readLines}
 use Rattle.netlist_text.specs.Law.{SoundNetlist}
 use Rattle.netlist_text.specs.Written.{textOf, nameOf, gateStatements, statements, Reads-back}
 use Rattle.netlist_text.proofs.WrittenLines.{read-lines-written}
 use Rattle.netlist_text.proofs.WrittenNetlist.{statements-good, text-short}
-use Rattle.netlist_text.proofs.AdmittedStatements.{Completes, inputsOnly, upTo, inputs-admitted, gates-admitted}
+use Rattle.netlist_text.proofs.AdmittedStatements.{Completes, ofInputs, inputsOnly, upTo, inputs-admitted, gates-admitted}
 use Rattle.netlist_text.proofs.ShownOutputs.{outputs-admitted}
 
 -- all inputs, and no gate yet
 all-inputs : (n : Netlist) → SoundNetlist n → upTo n [] [] [] ≡ inputsOnly (n .inputNames)
-all-inputs n sound = ap (λ k. record { netlist = record { circuit = record { inputs = k; gates = []; outputs = [] }; inputNames = n .inputNames; gateNames = [] }; outputs = [] }) (sym (sound .inputs-named))
+all-inputs n sound = ap (λ i. ofInputs i (n .inputNames)) (sym (sound .inputs-named))
 
 statements-complete : (n : Netlist) → SoundNetlist n → Completes n 1 blank (statements n)
 statements-complete n sound =

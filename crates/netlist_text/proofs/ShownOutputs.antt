@@ -3,30 +3,27 @@
 --   showing       a netlist with these of its outputs
 --   declaring     the draft of a netlist's inputs and gates, and of OUTPUT lines
 use mathlib.Core.Path.{_≡_, refl, sym, ap, subst, _∙_}
-use mathlib.Core.Bool.{Bool, true, false, not, cond, _&&_}
+use mathlib.Core.Bool.{true, false, not, _&&_}
 use mathlib.Core.List.{List, [], _∷_, _++_, map}
 use mathlib.Core.Logic.{⊎-elim}
-use Prim.Native.Nat.{ℕ, zero, suc, _+_, _<_, _≤_}
+use Prim.Native.Nat.{ℕ, suc, _+_, _<_, _≤_}
 use native.Mathlib.Omega.{arith}
-use lib.Dec.{eqb, ltb}
+use lib.Dec.{ltb}
 use lib.ListN.{length, getD}
-use Rattle.std.specs.declared.option.Option.the-variants.{Some, None}
-use Rattle.std.specs.declared.result.Result.{Result}
 use Rattle.std.specs.declared.result.Result.the-variants.{Ok, Err}
 use Rattle.std.proofs.shelf.Lists.{append-nil, append-assoc, length-append, length-push, getD-append-left, getD-at}
 use Rattle.std.proofs.shelf.Tests.{cond-false, cases-bool, and-parts, and-from, or-from, not-from-true, lt-ltb, eqb-true}
-use Rattle.refusal.specs.declared.Refusal.{Refusal}
 use Rattle.circuit.specs.declared.gate.Signal.{Signal}
 use Rattle.circuit.specs.declared.gate.Signal.the-variants.{Input, Gate}
 use Rattle.circuit.specs.Lists.{all, any}
 use Rattle.circuit.specs.Circuits.{there}
 use Rattle.circuit.proofs.Wiring.{there-more}
-use Rattle.netlist_text.specs.Statements.{Name, Statement, output, none}
+use Rattle.netlist_text.specs.Statements.{output, none}
 use Rattle.netlist_text.specs.Netlists.{Netlist, OutputLine, Draft, signal}
-use Rattle.netlist_text.specs.Meaning.{outputAdded, admitted, refusal, sameSignal, shows, outputShown, shown, andThen, withOutputs, lacking, finished}
+use Rattle.netlist_text.specs.Meaning.{outputAdded, refusal, sameSignal, shows, shown, andThen, withOutputs, lacking, finished}
 use Rattle.netlist_text.specs.Law.{Different, SoundNetlist}
 use Rattle.netlist_text.specs.Written.{nameOf}
-use Rattle.netlist_text.proofs.WrittenNetlist.{some-from-length}
+use Rattle.netlist_text.proofs.Tested.{some-from-length}
 use Rattle.netlist_text.proofs.NamedSignals.{Begins, signal-of-name}
 use Rattle.netlist_text.proofs.AdmittedStatements.{Completes, upTo, completes-more, asked}
 

@@ -1,15 +1,15 @@
 -- How many bytes written statements take.
 use mathlib.Core.Path.{_≡_, refl, sym, ap, _∙_}
-use mathlib.Core.Bool.{Bool, true, false, not, _&&_}
+use mathlib.Core.Bool.{Bool, true, not}
 use mathlib.Core.List.{List, [], _∷_, _++_}
-use Prim.Native.Nat.{ℕ, zero, suc, _+_, _*_, _<_, _≤_}
+use Prim.Native.Nat.{ℕ, suc, _*_, _≤_}
 use native.Mathlib.Nat.{mul-suc}
 use native.Mathlib.Omega.{arith}
 use lib.Dec.{leb}
 use lib.ListN.{length}
 use lib.Chars.{codes}
 use Rattle.std.proofs.shelf.Lists.{append-assoc, length-append}
-use Rattle.std.proofs.shelf.Tests.{both-ways, and-parts, and-from, leb-true, le-leb}
+use Rattle.std.proofs.shelf.Tests.{both-ways, and-parts, leb-true, le-leb}
 use Rattle.circuit.specs.declared.kind.Kind.{Kind}
 use Rattle.circuit.specs.declared.kind.Kind.the-variants.{And, Or, Nand, Nor, Xor, Xnor, Not}
 use Rattle.circuit.specs.Lists.{all}

@@ -1,7 +1,7 @@
 -- A text of good statements means what admitting them, one after another, gives.
 --   admittedAll   a draft after these statements, whose lines are numbered from here
-use mathlib.Core.Path.{_≡_, refl, sym, ap, _∙_}
-use mathlib.Core.Bool.{Bool, true, false, not, _&&_, _||_}
+use mathlib.Core.Path.{_≡_, refl, ap, _∙_}
+use mathlib.Core.Bool.{true, false, _||_}
 use mathlib.Core.List.{List, [], _∷_, _++_}
 use mathlib.Core.Logic.{⊎-elim}
 use Prim.Native.Nat.{ℕ, _+_}
@@ -10,29 +10,26 @@ use lib.Chars.{codes}
 use Rattle.std.specs.declared.option.Option.the-variants.{Some, None}
 use Rattle.std.specs.declared.result.Result.{Result}
 use Rattle.std.specs.declared.result.Result.the-variants.{Ok, Err}
-use Rattle.std.proofs.shelf.Tests.{cond-true, cond-false, cases-bool, both-ways, eqb-true, and-parts, and-from, or-left}
+use Rattle.std.proofs.shelf.Tests.{cond-true, cond-false, cases-bool, both-ways, eqb-true, and-parts, or-left}
 use Rattle.refusal.specs.declared.Refusal.{Refusal}
 use Rattle.circuit.specs.declared.kind.Kind.{Kind}
 use Rattle.circuit.specs.declared.kind.Kind.the-variants.{And, Or, Nand, Nor, Xor, Xnor, Not}
 use Rattle.circuit.specs.Lists.{all}
 use Rattle.circuit.proofs.Tested.{all-weaker}
-use Rattle.netlist_text.specs.Words.{nameByte, signByte, lineByte, stray, onFirst, lines, skipped, lexemes}
-use Rattle.netlist_text.specs.Statements.{Name, Statement, input, output, gate, none, statement}
-use Rattle.netlist_text.specs.Netlists.{Netlist, Draft}
+use Rattle.netlist_text.specs.Words.{nameByte, signByte, lineByte, stray, onFirst, lines, skipped}
+use Rattle.netlist_text.specs.Statements.{Name, Statement, input, output, gate, none}
+use Rattle.netlist_text.specs.Netlists.{Draft}
 use Rattle.netlist_text.specs.Meaning.{admitted, onLine, formed, clean, readLine, andThen, finished, readLines}
 use Rattle.netlist_text.specs.Law.{goodName}
 use Rattle.netlist_text.specs.Written.{kindWord, listed, written, textOf}
-use Rattle.netlist_text.proofs.WrittenWords.{Good, good-name, good, good-gate, one-good, statement-written}
+use Rattle.netlist_text.proofs.Tested.{all-append, some-append}
+use Rattle.netlist_text.proofs.WrittenWords.{good-name, good, good-gate, one-good, statement-written}
 
 abbrev pub admittedAll : ℕ → Draft → List Statement → Result Draft Refusal
 admittedAll line d [] = Ok d
 admittedAll line d (s ∷ ss) = andThen (onLine line (admitted d line s)) (λ e. admittedAll (line + 1) e ss)
 
 -- ── each byte may stand in a line ──
-pub all-append : {A : Type 0} (p : A → Bool) (xs ys : List A) → all p xs ≡ true → all p ys ≡ true → all p (xs ++ ys) ≡ true
-all-append p [] ys a b = b
-all-append p (x ∷ xs) ys a b = let h = and-parts (p x) (all p xs) a in and-from (p x) (all p (xs ++ ys)) (h .0) (all-append p xs ys (h .1) b)
-
 name-line-bytes : (n : Name) → all nameByte n ≡ true → all lineByte n ≡ true
 name-line-bytes n e = all-weaker nameByte lineByte n (λ b h. or-left (nameByte b) (eqb b 32 || signByte b) h) e
 
@@ -76,10 +73,6 @@ other-byte b x off h = ⊎-elim (λ t. absurd (both-ways (lineByte b) (ap lineBy
 not-skipped : (l : List ℕ) → none l ≡ false → all lineByte l ≡ true → skipped l ≡ false
 not-skipped [] e h = absurd (both-ways true e refl)
 not-skipped (b ∷ l) e h = other-byte b 35 refl (and-parts (lineByte b) (all lineByte l) h .0)
-
-some-append : (xs ys : List ℕ) → none xs ≡ false → none (xs ++ ys) ≡ false
-some-append [] ys e = absurd (both-ways true e refl)
-some-append (x ∷ xs) ys e = refl
 
 some-written : (s : Statement) → good s ≡ true → none (written s) ≡ false
 some-written (input n) g = refl

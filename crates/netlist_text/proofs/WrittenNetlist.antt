@@ -1,8 +1,8 @@
 -- The statements of a sound netlist are good, and their text is short enough to be read.
-use mathlib.Core.Path.{_≡_, refl, sym, ap, subst, _∙_}
-use mathlib.Core.Bool.{Bool, true, false, not, _&&_}
+use mathlib.Core.Path.{_≡_, refl, ap, _∙_}
+use mathlib.Core.Bool.{Bool, true, not, _&&_}
 use mathlib.Core.List.{List, [], _∷_, _++_, map}
-use Prim.Native.Nat.{ℕ, zero, suc, _+_, _*_, _<_, _≤_}
+use Prim.Native.Nat.{ℕ, suc, _+_, _≤_}
 use native.Mathlib.Omega.{arith}
 use lib.Dec.{leb}
 use lib.ListN.{length}
@@ -10,7 +10,6 @@ use Rattle.std.proofs.shelf.Lists.{length-append, length-map}
 use Rattle.std.proofs.shelf.Tests.{and-parts, and-from, leb-true, eqb-true}
 use Rattle.circuit.specs.declared.kind.Kind.{Kind}
 use Rattle.circuit.specs.declared.kind.Kind.the-variants.{And, Or, Nand, Nor, Xor, Xnor, Not}
-use Rattle.circuit.specs.declared.gate.Signal.{Signal}
 use Rattle.circuit.specs.Kinds.{takes, several}
 use Rattle.circuit.specs.Lists.{all}
 use Rattle.circuit.specs.Circuits.{Gate, there, fits, wired}
@@ -19,8 +18,8 @@ use Rattle.netlist_text.specs.Statements.{Name, Statement, input, output, gate
 use Rattle.netlist_text.specs.Netlists.{Netlist}
 use Rattle.netlist_text.specs.Law.{goodName, SoundNetlist}
 use Rattle.netlist_text.specs.Written.{textOf, nameOf, gateStatements, statements}
+use Rattle.netlist_text.proofs.Tested.{all-append, all-map, some-from-length}
 use Rattle.netlist_text.proofs.WrittenWords.{good}
-use Rattle.netlist_text.proofs.WrittenLines.{all-append}
 use Rattle.netlist_text.proofs.WrittenLength.{within, input-within, output-within, gate-within, text-append, text-length}
 use Rattle.netlist_text.proofs.NamedSignals.{name-of-good, names-of-good}
 
@@ -37,15 +36,11 @@ takes-bounds Xor m e = let h = eqb-true m 2 e in (omega arith, omega arith)
 takes-bounds Xnor m e = let h = eqb-true m 2 e in (omega arith, omega arith)
 takes-bounds Not m e = let h = eqb-true m 1 e in (omega arith, omega arith)
 
-pub some-from-length : {A : Type 0} (xs : List A) → 1 ≤ length xs → not (none xs) ≡ true
-some-from-length [] h = absurd (omega arith)
-some-from-length (x ∷ xs) h = refl
-
-all-map : {A B : Type 0} (p : A → Bool) (q : B → Bool) (f : A → B) (xs : List A) → ((x : A) → p x ≡ true → q (f x) ≡ true) → all p xs ≡ true → all q (map f xs) ≡ true
-all-map p q f [] h e = refl
-all-map p q f (x ∷ xs) h e = let r = and-parts (p x) (all p xs) e in and-from (q (f x)) (all q (map f xs)) (h x (r .0)) (all-map p q f xs h (r .1))
-
 -- ── what a test says of each part ──
+-- a test passes gates with good names and at most 8 operands
+abbrev PassesGates : (Statement → Bool) → Type 0
+PassesGates p = (w : Name) (k : Kind) (ns : List Name) → goodName w ≡ true → not (none ns) ≡ true → all goodName ns ≡ true → length ns ≤ 8 → p (gate w k ns) ≡ true
+
 module _ (n : Netlist) (sound : SoundNetlist n) (p : Statement → Bool) where
   inputs-pass : ((w : Name) → goodName w ≡ true → p (input w) ≡ true) → all p (map input (n .inputNames)) ≡ true
   inputs-pass h = all-map goodName p input (n .inputNames) h (sound .input-names-good)
@@ -55,10 +50,10 @@ module _ (n : Netlist) (sound : SoundNetlist n) (p : Statement → Bool) where
       all-map (there (n .circuit .inputs) (length (n .circuit .gates))) p (λ s. output (nameOf n s)) (n .circuit .outputs)
       (λ s t. h (nameOf n s) (name-of-good n sound s t)) (sound .circuit .shown)
 
-  gates-pass : ((w : Name) (k : Kind) (ns : List Name) → goodName w ≡ true → not (none ns) ≡ true → all goodName ns ≡ true → length ns ≤ 8 → p (gate w k ns) ≡ true) → (m : ℕ) (ws : List Name) (gs : List Gate) → m + length gs ≤ length (n .circuit .gates) → all goodName ws ≡ true → wired (n .circuit .inputs) m gs ≡ true → all p (gateStatements n ws gs) ≡ true
-  gates-pass h m [] gs few e wd = refl
-  gates-pass h m (w ∷ ws) [] few e wd = refl
-  gates-pass h m (w ∷ ws) (g ∷ gs) few e wd =
+  gates-pass-from : PassesGates p → (m : ℕ) (ws : List Name) (gs : List Gate) → m + length gs ≤ length (n .circuit .gates) → all goodName ws ≡ true → wired (n .circuit .inputs) m gs ≡ true → all p (gateStatements n ws gs) ≡ true
+  gates-pass-from h m [] gs few e wd = refl
+  gates-pass-from h m (w ∷ ws) [] few e wd = refl
+  gates-pass-from h m (w ∷ ws) (g ∷ gs) few e wd =
       let I = n .circuit .inputs in
       let names = map (nameOf n) (g .operands) in
       let q = and-parts (goodName w) (all goodName ws) e in
@@ -67,10 +62,10 @@ module _ (n : Netlist) (sound : SoundNetlist n) (p : Statement → Bool) where
       let b = takes-bounds (g .kind) (length (g .operands)) (f .0) in
       let len = length-map (g .operands) (nameOf n) in
       let here = h w (g .kind) names (q .0) (some-from-length names (omega arith)) (names-of-good n sound (g .operands) (all-there-more I I m (length (n .circuit .gates)) (g .operands) (omega arith) (omega arith) (f .1))) (omega arith) in
-      and-from (p (gate w (g .kind) names)) (all p (gateStatements n ws gs)) here (gates-pass h (suc m) ws gs (omega arith) (q .1) (r .1))
+      and-from (p (gate w (g .kind) names)) (all p (gateStatements n ws gs)) here (gates-pass-from h (suc m) ws gs (omega arith) (q .1) (r .1))
 
-  all-gates-pass : ((w : Name) (k : Kind) (ns : List Name) → goodName w ≡ true → not (none ns) ≡ true → all goodName ns ≡ true → length ns ≤ 8 → p (gate w k ns) ≡ true) → all p (gateStatements n (n .gateNames) (n .circuit .gates)) ≡ true
-  all-gates-pass h = gates-pass h 0 (n .gateNames) (n .circuit .gates) (omega arith) (sound .gate-names-good) (sound .circuit .in-order)
+  gates-pass : PassesGates p → all p (gateStatements n (n .gateNames) (n .circuit .gates)) ≡ true
+  gates-pass h = gates-pass-from h 0 (n .gateNames) (n .circuit .gates) (omega arith) (sound .gate-names-good) (sound .circuit .in-order)
 
 -- ── the statements ──
 pub statements-good : (n : Netlist) → SoundNetlist n → all good (statements n) ≡ true
@@ -79,7 +74,7 @@ statements-good n sound =
     let outputs = map (λ s. output (nameOf n s)) (n .circuit .outputs) in
     all-append good (map input (n .inputNames)) (gates ++ outputs) (inputs-pass n sound good (λ w h. h))
     (all-append good gates outputs
-    (all-gates-pass n sound good (λ w k ns h s a few. and-from (goodName w) (not (none ns) && all goodName ns) h (and-from (not (none ns)) (all goodName ns) s a)))
+    (gates-pass n sound good (λ w k ns h s a few. and-from (goodName w) (not (none ns) && all goodName ns) h (and-from (not (none ns)) (all goodName ns) s a)))
     (outputs-pass n sound good (λ w h. h)))
 
 gate-statements-length : (n : Netlist) (ws : List Name) (gs : List Gate) → length (gateStatements n ws gs) ≤ length gs
@@ -93,7 +88,7 @@ text-short n sound =
     let gates = gateStatements n (n .gateNames) (n .circuit .gates) in
     let outputs = map (λ s. output (nameOf n s)) (n .circuit .outputs) in
     let a = text-length 25 inputs (inputs-pass n sound (within 25) input-within) in
-    let b = text-length 169 gates (all-gates-pass n sound (within 169) gate-within) in
+    let b = text-length 169 gates (gates-pass n sound (within 169) gate-within) in
     let c = text-length 25 outputs (outputs-pass n sound (within 25) output-within) in
     let whole = ap length (text-append inputs (gates ++ outputs)) ∙ length-append (textOf inputs) (textOf (gates ++ outputs)) in
     let rest = ap length (text-append gates outputs) ∙ length-append (textOf gates) (textOf outputs) in
