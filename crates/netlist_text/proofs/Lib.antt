@@ -1,11 +1,15 @@
 pub mod Lexing
 pub mod Signals
+pub mod GoodNames
+pub mod Distinct
+pub mod Drawn
+pub mod Taken
 pub mod Tested
 pub mod WrittenWords
 pub mod WrittenLines
+pub mod WrittenLength
 pub mod FoundNames
 pub mod NamedSignals
-pub mod WrittenLength
 pub mod WrittenNetlist
 pub mod AdmittedStatements
 pub mod ShownOutputs
