@@ -7,15 +7,12 @@ use Prim.Native.Nat.{ℕ, zero, suc, _+_, _<_}
 use native.Mathlib.Omega.{arith}
 use lib.ListN.{length, getD}
 use Rattle.std.specs.declared.option.Option.the-variants.{Some, None}
-use Rattle.std.proofs.shelf.Equals.{sameBytes-decides}
 use Rattle.std.proofs.shelf.Lists.{length-append, getD-append-left, getD-at}
 use Rattle.std.proofs.shelf.Tests.{cond-true, cond-false, cases-bool}
 use Rattle.netlist_text.specs.Statements.{Name}
 use Rattle.netlist_text.specs.Netlists.{sameName, find}
 use Rattle.netlist_text.specs.Law.{Distinct, Apart}
-
-pub same-as-itself : (n : Name) → sameName n n ≡ true
-same-as-itself n = sameBytes-decides n n .1 refl
+use Rattle.netlist_text.proofs.Distinct.{same-name-itself}
 
 -- ── by the names one by one ──
 pub find-none : (k : ℕ) (xs : List Name) (w : Name) → ((j : ℕ) → j < length xs → sameName (getD xs j []) w ≡ false) → find k xs w ≡ None
@@ -49,7 +46,7 @@ own-number xs ys i d h =
     let e : 1 + i ≡ suc i = omega arith in
     find-first 1 xs w i h
     (λ j l. ap (λ v. sameName v w) (sym (getD-append-left xs ys [] j (omega arith))) ∙ distinct-at (xs ++ ys) d j i l (omega (arith, length-append xs ys)))
-    (ap (λ v. sameName v w) (sym (getD-append-left xs ys [] i h)) ∙ same-as-itself w)
+    (ap (λ v. sameName v w) (sym (getD-append-left xs ys [] i h)) ∙ same-name-itself w)
     ∙ ap Some e
 
 pub other-names : (xs ys : List Name) (j : ℕ) → Apart xs ys → j < length ys → find 1 xs (getD ys j []) ≡ None

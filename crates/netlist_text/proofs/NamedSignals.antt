@@ -27,16 +27,16 @@ pub record Begins (m n : Netlist) : Type 0 where
   pub gates : m .gateNames ++ later ≡ n .gateNames
 
 -- from 1 to so many
-within : (i k : ℕ) → (leb 1 i && leb i k) ≡ true → (1 ≤ i) × (i ≤ k)
-within i k e = let p = and-parts (leb 1 i) (leb i k) e in (leb-true 1 i (p .0), leb-true i k (p .1))
+number-bounds : (i k : ℕ) → (leb 1 i && leb i k) ≡ true → (1 ≤ i) × (i ≤ k)
+number-bounds i k e = let p = and-parts (leb 1 i) (leb i k) e in (leb-true 1 i (p .0), leb-true i k (p .1))
 
 -- ── the name is good ──
 module _ (n : Netlist) (sound : SoundNetlist n) where
   pub name-of-good : (s : Signal) → there (n .circuit .inputs) (length (n .circuit .gates)) s ≡ true → goodName (nameOf n s) ≡ true
-  name-of-good (Input zero) e = absurd (omega (arith, within zero (n .circuit .inputs) e .0))
-  name-of-good (Input (suc i)) e = all-at goodName (n .inputNames) i [] (omega (arith, within (suc i) (n .circuit .inputs) e .1, sound .inputs-named)) (sound .input-names-good)
-  name-of-good (Gate zero) e = absurd (omega (arith, within zero (length (n .circuit .gates)) e .0))
-  name-of-good (Gate (suc g)) e = all-at goodName (n .gateNames) g [] (omega (arith, within (suc g) (length (n .circuit .gates)) e .1, sound .gates-named)) (sound .gate-names-good)
+  name-of-good (Input zero) e = absurd (omega (arith, number-bounds zero (n .circuit .inputs) e .0))
+  name-of-good (Input (suc i)) e = all-at goodName (n .inputNames) i [] (omega (arith, number-bounds (suc i) (n .circuit .inputs) e .1, sound .inputs-named)) (sound .input-names-good)
+  name-of-good (Gate zero) e = absurd (omega (arith, number-bounds zero (length (n .circuit .gates)) e .0))
+  name-of-good (Gate (suc g)) e = all-at goodName (n .gateNames) g [] (omega (arith, number-bounds (suc g) (length (n .circuit .gates)) e .1, sound .gates-named)) (sound .gate-names-good)
 
   pub names-of-good : (ss : List Signal) → all (there (n .circuit .inputs) (length (n .circuit .gates))) ss ≡ true → all goodName (map (nameOf n) ss) ≡ true
   names-of-good [] e = refl
@@ -67,11 +67,11 @@ module _ (m n : Netlist) (begins : Begins m n) (sound : SoundNetlist n) where
       (own-number (m .gateNames) (begins .later) g (subst Distinct (sym (begins .gates)) (sound .gates-distinct)) h)
 
   pub signal-of-name : (s : Signal) → there (length (m .inputNames)) (length (m .gateNames)) s ≡ true → signal m (nameOf n s) ≡ Some s
-  signal-of-name (Input zero) e = absurd (omega (arith, within zero (length (m .inputNames)) e .0))
-  signal-of-name (Input (suc i)) e = ap (λ o. either o (find 1 (m .gateNames) (getD (n .inputNames) i []))) (input-found i (omega (arith, within (suc i) (length (m .inputNames)) e .1)))
-  signal-of-name (Gate zero) e = absurd (omega (arith, within zero (length (m .gateNames)) e .0))
+  signal-of-name (Input zero) e = absurd (omega (arith, number-bounds zero (length (m .inputNames)) e .0))
+  signal-of-name (Input (suc i)) e = ap (λ o. either o (find 1 (m .gateNames) (getD (n .inputNames) i []))) (input-found i (omega (arith, number-bounds (suc i) (length (m .inputNames)) e .1)))
+  signal-of-name (Gate zero) e = absurd (omega (arith, number-bounds zero (length (m .gateNames)) e .0))
   signal-of-name (Gate (suc g)) e =
-      let h : g < length (m .gateNames) = omega (arith, within (suc g) (length (m .gateNames)) e .1) in
+      let h : g < length (m .gateNames) = omega (arith, number-bounds (suc g) (length (m .gateNames)) e .1) in
       ap (λ o. either o (find 1 (m .gateNames) (getD (n .gateNames) g []))) (input-not-found g h) ∙ ap (either None) (gate-found g h)
 
   pub signals-of-names : (ss : List Signal) → all (there (length (m .inputNames)) (length (m .gateNames))) ss ≡ true → signals m (map (nameOf n) ss) ≡ Some ss

@@ -13,7 +13,7 @@ use Rattle.netlist_text.specs.Meaning.{refusal, readLines}
 use Rattle.netlist_text.specs.Law.{SoundNetlist}
 use Rattle.netlist_text.specs.Written.{textOf, nameOf, gateStatements, statements, Reads-back}
 use Rattle.netlist_text.proofs.WrittenLines.{read-lines-written}
-use Rattle.netlist_text.proofs.WrittenNetlist.{statements-good, text-short}
+use Rattle.netlist_text.proofs.WrittenNetlist.{statements-writable, text-short}
 use Rattle.netlist_text.proofs.AdmittedStatements.{Completes, ofInputs, inputsOnly, upTo, inputs-admitted, gates-admitted}
 use Rattle.netlist_text.proofs.ShownOutputs.{outputs-admitted}
 
@@ -33,5 +33,5 @@ pub reads-back : Reads-back
 reads-back n sound =
     let text = textOf (statements n) in
     cond-true (leb (length text) 60000) (readLines 1 blank (lines text)) (Err (refusal 2 0 0)) (le-leb (length text) 60000 (text-short n sound))
-    ∙ read-lines-written 1 blank (statements n) (statements-good n sound)
+    ∙ read-lines-written 1 blank (statements n) (statements-writable n sound)
     ∙ statements-complete n sound

@@ -3,7 +3,7 @@
 --   showing       a netlist with these of its outputs
 --   declaring     the draft of a netlist's inputs and gates, and of OUTPUT lines
 use mathlib.Core.Path.{_≡_, refl, sym, ap, subst, _∙_}
-use mathlib.Core.Bool.{true, false, not, _&&_}
+use mathlib.Core.Bool.{true, false}
 use mathlib.Core.List.{List, [], _∷_, _++_, map}
 use mathlib.Core.Logic.{⊎-elim}
 use Prim.Native.Nat.{ℕ, suc, _+_, _<_, _≤_}
@@ -12,18 +12,19 @@ use lib.Dec.{ltb}
 use lib.ListN.{length, getD}
 use Rattle.std.specs.declared.result.Result.the-variants.{Ok, Err}
 use Rattle.std.proofs.shelf.Lists.{append-nil, append-assoc, length-append, length-push, getD-append-left, getD-at}
-use Rattle.std.proofs.shelf.Tests.{cond-false, cases-bool, and-parts, and-from, or-from, not-from-true, lt-ltb, eqb-true}
+use Rattle.std.proofs.shelf.Ways.{tells}
+use Rattle.std.proofs.shelf.Tests.{cond-false, cases-bool, and-parts, or-from, lt-ltb, eqb-true}
 use Rattle.circuit.specs.declared.gate.Signal.{Signal}
 use Rattle.circuit.specs.declared.gate.Signal.the-variants.{Input, Gate}
 use Rattle.circuit.specs.Lists.{all, any}
 use Rattle.circuit.specs.Circuits.{there}
+use Rattle.circuit.specs.Circuits as circuits
 use Rattle.circuit.proofs.Wiring.{there-more}
-use Rattle.netlist_text.specs.Statements.{output, none}
+use Rattle.netlist_text.specs.Statements.{Name, output}
 use Rattle.netlist_text.specs.Netlists.{Netlist, OutputLine, Draft, signal}
 use Rattle.netlist_text.specs.Meaning.{outputAdded, refusal, sameSignal, shows, shown, andThen, withOutputs, lacking, finished}
 use Rattle.netlist_text.specs.Law.{Different, SoundNetlist}
 use Rattle.netlist_text.specs.Written.{nameOf}
-use Rattle.netlist_text.proofs.Tested.{some-from-length}
 use Rattle.netlist_text.proofs.NamedSignals.{Begins, signal-of-name}
 use Rattle.netlist_text.proofs.AdmittedStatements.{Completes, upTo, completes-more, asked}
 
@@ -59,6 +60,11 @@ not-yet-shown ss s ts d =
     (cases-bool (sameSignal s (getD ss i s))))
 
 -- ── the outputs of the whole text ──
+nothing-lacks : (n : Netlist) (ws : List Name) (gs : List circuits.Gate) (os : List OutputLine) → 1 ≤ n .circuit .inputs → 1 ≤ length gs → 1 ≤ length os → lacking (upTo n ws gs os) ≡ false
+nothing-lacks n ws [] os i g o = absurd (omega arith)
+nothing-lacks n ws (x ∷ gs) [] i g o = absurd (omega arith)
+nothing-lacks n ws (x ∷ gs) (y ∷ os) i g o = grind (arith, tells)
+
 module _ (n : Netlist) (sound : SoundNetlist n) where
   output-shown : (ss : List Signal) (s : Signal) (ts : List Signal) (line : ℕ) → ss ++ s ∷ ts ≡ n .circuit .outputs → there (n .circuit .inputs) (length (n .circuit .gates)) s ≡ true → shown (showing n ss) line (signal (showing n ss) (nameOf n s)) ≡ Ok (showing n (ss ++ s ∷ []))
   output-shown ss s ts line e t =
@@ -78,17 +84,11 @@ module _ (n : Netlist) (sound : SoundNetlist n) where
   output-lines-length line [] = refl
   output-lines-length line (s ∷ ss) = ap suc (output-lines-length (line + 1) ss)
 
-  nothing-lacks : (os : List OutputLine) → 1 ≤ length os → lacking (declaring n os) ≡ false
-  nothing-lacks os h =
-      not-from-true _
-      (and-from (ltb 0 (n .circuit .inputs)) (not (none os) && not (none (n .circuit .gates))) (lt-ltb 0 (n .circuit .inputs) (omega (arith, sound .an-input)))
-      (and-from (not (none os)) (not (none (n .circuit .gates))) (some-from-length os h) (some-from-length (n .circuit .gates) (sound .a-gate))))
-
   whole-finished : (line : ℕ) → finished (declaring n (outputLines n line (n .circuit .outputs))) ≡ Ok n
   whole-finished line =
       let os = outputLines n line (n .circuit .outputs) in
       cond-false (lacking (declaring n os)) (Err (refusal 9 0 0)) (withOutputs (showing n []) os)
-      (nothing-lacks os (omega (arith, output-lines-length line (n .circuit .outputs), sound .an-output)))
+      (nothing-lacks n (n .gateNames) (n .circuit .gates) os (sound .an-input) (sound .a-gate) (omega (arith, output-lines-length line (n .circuit .outputs), sound .an-output)))
       ∙ outputs-shown line [] (n .circuit .outputs) refl (sound .circuit .shown)
 
   -- ── the OUTPUT lines ──

@@ -1,4 +1,4 @@
--- A text of good statements means what admitting them, one after another, gives.
+-- A text of writable statements means what admitting them, one after another, gives.
 --   admittedAll   a draft after these statements, whose lines are numbered from here
 use mathlib.Core.Path.{_≡_, refl, ap, _∙_}
 use mathlib.Core.Bool.{true, false, _||_}
@@ -23,7 +23,7 @@ use Rattle.netlist_text.specs.Meaning.{admitted, onLine, formed, clean, readLi
 use Rattle.netlist_text.specs.Law.{goodName}
 use Rattle.netlist_text.specs.Written.{kindWord, listed, written, textOf}
 use Rattle.netlist_text.proofs.Tested.{all-append, some-append}
-use Rattle.netlist_text.proofs.WrittenWords.{good-name, good, good-gate, one-good, statement-written}
+use Rattle.netlist_text.proofs.WrittenWords.{good-name, writable, writable-gate, one-good, statement-written}
 
 abbrev pub admittedAll : ℕ → Draft → List Statement → Result Draft Refusal
 admittedAll line d [] = Ok d
@@ -50,11 +50,11 @@ kind-line-bytes Xor = refl
 kind-line-bytes Xnor = refl
 kind-line-bytes Not = refl
 
-written-line-bytes : (s : Statement) → good s ≡ true → all lineByte (written s) ≡ true
+written-line-bytes : (s : Statement) → writable s ≡ true → all lineByte (written s) ≡ true
 written-line-bytes (input n) g = all-append lineByte (codes "INPUT(") (listed (n ∷ [])) refl (listed-line-bytes (n ∷ []) (one-good n g))
 written-line-bytes (output n) g = all-append lineByte (codes "OUTPUT(") (listed (n ∷ [])) refl (listed-line-bytes (n ∷ []) (one-good n g))
 written-line-bytes (gate n k ns) g =
-    let h = good-gate n k ns g in
+    let h = writable-gate n k ns g in
     all-append lineByte n _ (name-line-bytes n (h .name .bytes))
     (all-append lineByte (codes " = ") (kindWord k ++ (codes "(" ++ listed ns)) refl
     (all-append lineByte (kindWord k) (codes "(" ++ listed ns) (kind-line-bytes k)
@@ -74,10 +74,10 @@ not-skipped : (l : List ℕ) → none l ≡ false → all lineByte l ≡ true �
 not-skipped [] e h = absurd (both-ways true e refl)
 not-skipped (b ∷ l) e h = other-byte b 35 refl (and-parts (lineByte b) (all lineByte l) h .0)
 
-some-written : (s : Statement) → good s ≡ true → none (written s) ≡ false
+some-written : (s : Statement) → writable s ≡ true → none (written s) ≡ false
 some-written (input n) g = refl
 some-written (output n) g = refl
-some-written (gate n k ns) g = some-append n _ (good-gate n k ns g .name .some)
+some-written (gate n k ns) g = some-append n _ (writable-gate n k ns g .name .some)
 
 first-line : (l rest : List ℕ) → all lineByte l ≡ true → lines (l ++ 10 ∷ rest) ≡ l ∷ lines rest
 first-line [] rest e = refl
@@ -87,7 +87,7 @@ first-line (b ∷ l) rest e =
     ∙ ap (onFirst b) (first-line l rest (p .1))
 
 -- ── the lines are admitted ──
-read-line-written : (d : Draft) (line : ℕ) (s : Statement) → good s ≡ true → readLine d line (written s) ≡ onLine line (admitted d line s)
+read-line-written : (d : Draft) (line : ℕ) (s : Statement) → writable s ≡ true → readLine d line (written s) ≡ onLine line (admitted d line s)
 read-line-written d line s g =
     let l = written s in
     let h = written-line-bytes s g in
@@ -95,10 +95,10 @@ read-line-written d line s g =
     ∙ ap (clean d line l) (none-stray 1 l h)
     ∙ ap (formed d line) (statement-written s g)
 
-pub read-lines-written : (line : ℕ) (d : Draft) (ss : List Statement) → all good ss ≡ true → readLines line d (lines (textOf ss)) ≡ andThen (admittedAll line d ss) finished
+pub read-lines-written : (line : ℕ) (d : Draft) (ss : List Statement) → all writable ss ≡ true → readLines line d (lines (textOf ss)) ≡ andThen (admittedAll line d ss) finished
 read-lines-written line d [] g = refl
 read-lines-written line d (s ∷ ss) g =
-    let p = and-parts (good s) (all good ss) g in
+    let p = and-parts (writable s) (all writable ss) g in
     ap (readLines line d) (first-line (written s) (textOf ss) (written-line-bytes s (p .0)))
     ∙ ap (λ r. andThen r (λ e. readLines (line + 1) e (lines (textOf ss)))) (read-line-written d line s (p .0))
     ∙ rest-read (onLine line (admitted d line s)) (λ e. read-lines-written (line + 1) e ss (p .1))

@@ -1,4 +1,4 @@
--- The statements of a sound netlist are good, and their text is short enough to be read.
+-- The statements of a sound netlist are writable, and their text is short enough to be read.
 use mathlib.Core.Path.{_≡_, refl, ap, _∙_}
 use mathlib.Core.Bool.{Bool, true, not, _&&_}
 use mathlib.Core.List.{List, [], _∷_, _++_, map}
@@ -19,7 +19,7 @@ use Rattle.netlist_text.specs.Netlists.{Netlist}
 use Rattle.netlist_text.specs.Law.{goodName, SoundNetlist}
 use Rattle.netlist_text.specs.Written.{textOf, nameOf, gateStatements, statements}
 use Rattle.netlist_text.proofs.Tested.{all-append, all-map, some-from-length}
-use Rattle.netlist_text.proofs.WrittenWords.{good}
+use Rattle.netlist_text.proofs.WrittenWords.{writable}
 use Rattle.netlist_text.proofs.WrittenLength.{within, input-within, output-within, gate-within, text-append, text-length}
 use Rattle.netlist_text.proofs.NamedSignals.{name-of-good, names-of-good}
 
@@ -37,7 +37,7 @@ takes-bounds Xnor m e = let h = eqb-true m 2 e in (omega arith, omega arith)
 takes-bounds Not m e = let h = eqb-true m 1 e in (omega arith, omega arith)
 
 -- ── what a test says of each part ──
--- a test passes gates with good names and at most 8 operands
+-- a test passes gates with good names and from 1 to 8 operands
 abbrev PassesGates : (Statement → Bool) → Type 0
 PassesGates p = (w : Name) (k : Kind) (ns : List Name) → goodName w ≡ true → not (none ns) ≡ true → all goodName ns ≡ true → length ns ≤ 8 → p (gate w k ns) ≡ true
 
@@ -68,14 +68,14 @@ module _ (n : Netlist) (sound : SoundNetlist n) (p : Statement → Bool) where
   gates-pass h = gates-pass-from h 0 (n .gateNames) (n .circuit .gates) (omega arith) (sound .gate-names-good) (sound .circuit .in-order)
 
 -- ── the statements ──
-pub statements-good : (n : Netlist) → SoundNetlist n → all good (statements n) ≡ true
-statements-good n sound =
+pub statements-writable : (n : Netlist) → SoundNetlist n → all writable (statements n) ≡ true
+statements-writable n sound =
     let gates = gateStatements n (n .gateNames) (n .circuit .gates) in
     let outputs = map (λ s. output (nameOf n s)) (n .circuit .outputs) in
-    all-append good (map input (n .inputNames)) (gates ++ outputs) (inputs-pass n sound good (λ w h. h))
-    (all-append good gates outputs
-    (gates-pass n sound good (λ w k ns h s a few. and-from (goodName w) (not (none ns) && all goodName ns) h (and-from (not (none ns)) (all goodName ns) s a)))
-    (outputs-pass n sound good (λ w h. h)))
+    all-append writable (map input (n .inputNames)) (gates ++ outputs) (inputs-pass n sound writable (λ w h. h))
+    (all-append writable gates outputs
+    (gates-pass n sound writable (λ w k ns h s a few. and-from (goodName w) (not (none ns) && all goodName ns) h (and-from (not (none ns)) (all goodName ns) s a)))
+    (outputs-pass n sound writable (λ w h. h)))
 
 gate-statements-length : (n : Netlist) (ws : List Name) (gs : List Gate) → length (gateStatements n ws gs) ≤ length gs
 gate-statements-length n [] gs = omega arith

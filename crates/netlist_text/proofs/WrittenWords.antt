@@ -1,6 +1,7 @@
 -- The words and signs of a statement that is written are that statement's.
---   Good   a good name's three properties
---   good   a statement whose names are good, and whose gate has an operand
+--   Good           what makes a name good: some bytes of a name, and few enough
+--   writable       whether a statement has good names only and, of a gate, an operand
+--   WritableGate   what makes a gate's statement writable
 use mathlib.Core.Path.{_≡_, refl, sym, ap, _∙_}
 use mathlib.Core.Bool.{Bool, true, false, not, _&&_}
 use mathlib.Core.List.{List, [], _∷_, _++_}
@@ -30,18 +31,18 @@ good-name (b ∷ n) e =
     let p = and-parts (all nameByte (b ∷ n)) (isName (b ∷ n)) e in
     record { some = refl; bytes = p .0; short = p .1 }
 
-abbrev pub good : Statement → Bool
-good (input n) = goodName n
-good (output n) = goodName n
-good (gate n k ns) = goodName n && (not (none ns) && all goodName ns)
+abbrev pub writable : Statement → Bool
+writable (input n) = goodName n
+writable (output n) = goodName n
+writable (gate n k ns) = goodName n && (not (none ns) && all goodName ns)
 
-pub record GoodGate (n : Name) (ns : List Name) : Type 0 where
+pub record WritableGate (n : Name) (ns : List Name) : Type 0 where
   pub name : Good n
   pub some : not (none ns) ≡ true
   pub operands : all goodName ns ≡ true
 
-pub good-gate : (n : Name) (k : Kind) (ns : List Name) → good (gate n k ns) ≡ true → GoodGate n ns
-good-gate n k ns g =
+pub writable-gate : (n : Name) (k : Kind) (ns : List Name) → writable (gate n k ns) ≡ true → WritableGate n ns
+writable-gate n k ns g =
     let p = and-parts (goodName n) (not (none ns) && all goodName ns) g in
     let q = and-parts (not (none ns)) (all goodName ns) (p .1) in
     record { name = good-name n (p .0); some = q .0; operands = q .1 }
@@ -94,11 +95,11 @@ definition-written Xor n rest = refl
 definition-written Xnor n rest = refl
 definition-written Not n rest = refl
 
-pub statement-written : (s : Statement) → good s ≡ true → statement (lexemes (written s)) ≡ Some s
+pub statement-written : (s : Statement) → writable s ≡ true → statement (lexemes (written s)) ≡ Some s
 statement-written (input n) g = ap (declared (codes "INPUT")) (names-listed (n ∷ []) refl (one-good n g))
 statement-written (output n) g = ap (declared (codes "OUTPUT")) (names-listed (n ∷ []) refl (one-good n g))
 statement-written (gate n k ns) g =
-    let h = good-gate n k ns g in
+    let h = writable-gate n k ns g in
     ap statement (name-is-word n (codes " = " ++ (kindWord k ++ (codes "(" ++ listed ns))) (h .name .some) (h .name .bytes) refl)
     ∙ definition-written k n (listed ns)
     ∙ ap (defined n (Some k)) (names-listed ns (h .some) (h .operands))
