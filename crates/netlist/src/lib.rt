@@ -2,8 +2,15 @@
 mod admit;
 mod fault;
 mod lines;
+mod load;
 mod lookup;
+mod netlist;
 mod tables;
+mod text;
+mod whole;
 
 pub use fault::LineFault;
+pub use fault::LineFaultDebug;
 pub use fault::ReadFault;
+pub use fault::ReadFaultDebug;
+pub use netlist::Netlist;

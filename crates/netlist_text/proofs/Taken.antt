@@ -1,18 +1,18 @@
 -- Every netlist that a text gives is sound.
 use mathlib.Core.Path.{_≡_, refl, sym, ap, subst, _∙_}
-use mathlib.Core.Bool.{Bool, true, false, not, cond, _&&_, _||_}
+use mathlib.Core.Bool.{Bool, true, false, cond, _||_}
 use mathlib.Core.List.{List, [], _∷_, _++_}
 use mathlib.Core.Logic.{⊎-elim}
 use Prim.Native.Nat.{ℕ, zero, suc, _+_, _<_, _≤_}
 use native.Mathlib.Omega.{arith}
-use lib.Dec.{eqb, leb, ltb}
+use lib.Dec.{eqb, leb}
 use lib.ListN.{length, getD}
 use Rattle.std.specs.declared.option.Option.{Option}
 use Rattle.std.specs.declared.option.Option.the-variants.{Some, None}
 use Rattle.std.specs.declared.result.Result.{Result}
 use Rattle.std.specs.declared.result.Result.the-variants.{Ok, Err}
 use Rattle.std.proofs.shelf.Lists.{length-push, getD-push, getD-append-left, append-nil}
-use Rattle.std.proofs.shelf.Tests.{cond-true, cond-false, cases-bool, cases-lt, both-ways, and-parts, or-parts, not-true, not-false, ltb-true, eq-eqb}
+use Rattle.std.proofs.shelf.Tests.{cond-true, cond-false, cases-bool, cases-lt, both-ways, or-parts, eqb-false, eq-eqb}
 use Rattle.refusal.specs.declared.Refusal.{Refusal}
 use Rattle.circuit.specs.declared.gate.Signal.{Signal}
 use Rattle.circuit.specs.declared.gate.Signal.the-variants.{Input, Gate}
@@ -109,8 +109,8 @@ all-shown n (o ∷ os) m h e =
     (rest .0, omega (arith, rest .1, one .1), rest .2 ∙ one .2, rest .3 ∙ one .3)
 
 -- ── the whole text ──
-some-long : {X : Type 0} (xs : List X) → not (none xs) ≡ true → 1 ≤ length xs
-some-long [] e = absurd (both-ways true (sym e) refl)
+some-long : {X : Type 0} (xs : List X) → none xs ≡ false → 1 ≤ length xs
+some-long [] e = absurd (both-ways true e refl)
 some-long (x ∷ xs) e = omega arith
 
 finished-sound : (d : Draft) (m : Netlist) → Drawn d → finished d ≡ Ok m → SoundNetlist m
@@ -134,12 +134,13 @@ finished-sound d m h e = ⊎-elim
         let r = all-shown n (d .outputs) m start q in
         let s = r .0 in
         let k = s .named in
-        let p = and-parts (ltb 0 (n .circuit .inputs)) (not (none (d .outputs)) && not (none (n .circuit .gates))) (not-false (ltb 0 (n .circuit .inputs) && (not (none (d .outputs)) && not (none (n .circuit .gates)))) f) in
-        let p′ = and-parts (not (none (d .outputs))) (not (none (n .circuit .gates))) (p .1) in
+        let p = or-parts (eqb (n .circuit .inputs) 0) (none (d .outputs) || none (n .circuit .gates)) f in
+        let p′ = or-parts (none (d .outputs)) (none (n .circuit .gates)) (p .1) in
+        let inputs : n .circuit .inputs ≡ 0 → ⊥ = eqb-false (n .circuit .inputs) 0 (p .0) in
         let zero-outputs : length (n .circuit .outputs) ≡ 0 = ap length (h .no-outputs) in
         record {
           circuit = record { few-inputs = k .few-inputs; few-gates = k .few-gates; few-outputs = omega (arith, r .1, zero-outputs, h .few-outputs); in-order = k .in-order; shown = s .there-all };
-          an-input = omega (arith, ltb-true 0 (n .circuit .inputs) (p .0), r .2);
+          an-input = omega (arith, inputs, r .2);
           a-gate = omega (arith, some-long (n .circuit .gates) (p′ .1), ap length (r .3));
           an-output = omega (arith, some-long (d .outputs) (p′ .0), r .1);
           inputs-named = k .inputs-named;

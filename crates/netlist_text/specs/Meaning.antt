@@ -3,7 +3,7 @@
 --   readLine   a draft after one more line of the text
 --   finished   the netlist of a whole text
 --   meaning    what a text means
-use mathlib.Core.Bool.{Bool, true, false, not, cond, _&&_}
+use mathlib.Core.Bool.{Bool, true, false, not, cond, _||_}
 use mathlib.Core.List.{List, [], _∷_, _++_}
 use Prim.Native.Nat.{ℕ, suc, _+_}
 use lib.Dec.{eqb, leb, ltb}
@@ -101,7 +101,7 @@ withOutputs n (o ∷ os) = andThen (shown n (o .line) (signal n (o .name))) (λ 
 
 -- whether there is no input, no output or no gate
 abbrev pub lacking : Draft → Bool
-lacking d = not (ltb 0 (d .netlist .circuit .inputs) && (not (none (d .outputs)) && not (none (d .netlist .circuit .gates))))
+lacking d = eqb (d .netlist .circuit .inputs) 0 || (none (d .outputs) || none (d .netlist .circuit .gates))
 
 abbrev pub finished : Draft → Result Netlist Refusal
 finished d = cond (lacking d) (Err (refusal 9 0 0)) (withOutputs (d .netlist) (d .outputs))
