@@ -4,3 +4,13 @@ pub mod GoodNames
 pub mod Distinct
 pub mod Drawn
 pub mod Taken
+pub mod Tested
+pub mod WrittenWords
+pub mod WrittenLines
+pub mod WrittenLength
+pub mod FoundNames
+pub mod NamedSignals
+pub mod WrittenNetlist
+pub mod AdmittedStatements
+pub mod ShownOutputs
+pub mod ReadsBack
