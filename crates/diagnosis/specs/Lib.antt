@@ -1,0 +1,6 @@
+pub mod Sets
+pub mod Explains
+pub mod Order
+pub mod Minimal
+pub mod FullList
+pub mod SmallCircuits
