@@ -4,3 +4,4 @@ pub mod Order
 pub mod Minimal
 pub mod FullList
 pub mod SmallCircuits
+pub mod Laws
