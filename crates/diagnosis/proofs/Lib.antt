@@ -1,3 +1,5 @@
 pub mod Members
 pub mod Simulated
 pub mod Searched
+pub mod Ordered
+pub mod Subsets
