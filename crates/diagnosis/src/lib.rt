@@ -1,4 +1,12 @@
 // Diagnosis: which sets of gates explain what was measured, and the full list of the minimal ones.
+mod explaining;
+mod listing;
 mod table;
 
+pub use explaining::minimal_when_none_drops;
+pub use explaining::search_decides;
+pub use explaining::supersets_explain;
+pub use explaining::tests_force_apart;
+pub use listing::list_is_full;
+pub use listing::one_full_list;
 pub use table::small_circuits_are_listed;
