@@ -6,3 +6,6 @@ pub mod Subsets
 pub mod Chosen
 pub mod Listed
 pub mod Dropped
+pub mod Nexts
+pub mod Marked
+pub mod ForcedByte

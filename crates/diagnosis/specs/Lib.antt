@@ -5,3 +5,5 @@ pub mod Minimal
 pub mod FullList
 pub mod SmallCircuits
 pub mod Laws
+pub mod Next
+pub mod Readings
