@@ -1,6 +1,6 @@
 -- With more gates a set still explains; so a set is minimal as soon as no single gate can be dropped from it.
 use mathlib.Core.Path.{_≡_, refl, sym, ap, subst, _∙_}
-use mathlib.Core.Bool.{Bool, true, false, cond, _||_, false≢true}
+use mathlib.Core.Bool.{Bool, true, false, cond, false≢true}
 use mathlib.Core.List.{List, [], _∷_}
 use mathlib.Core.Logic.{_⊎_, inl, inr, ⊎-elim, _↔_}
 use Prim.Native.Nat.{ℕ, suc}
@@ -10,11 +10,12 @@ use lib.ListN.{length}
 use Rattle.std.proofs.shelf.Tests.{eqb-true, eq-eqb, cases-bool, or-cases, or-left, or-right}
 use Rattle.circuit.specs.Circuits.{Circuit}
 use Rattle.circuit.specs.Tests.{Test}
-use Rattle.diagnosis.specs.Sets.{Marks, member, Ascends, IsSet, Within, Proper, without}
-use Rattle.diagnosis.specs.Explains.{numbered, values, Explains, ExplainsCase, ExplainsSet}
+use Rattle.diagnosis.specs.Sets.{Marks, member, Ascends, IsSet, Within, without}
+use Rattle.diagnosis.specs.Explains.{numbered, values, ExplainsCase, ExplainsSet}
 use Rattle.diagnosis.specs.Minimal.{Minimal}
-use Rattle.diagnosis.specs.Laws.{Supersets-explain, Minimal-when-none-drops}
-use Rattle.diagnosis.proofs.Simulated.{brings-marks, brings-more}
+use Rattle.diagnosis.specs.ExplainingLaws.{Supersets-explain}
+use Rattle.diagnosis.specs.ListLaws.{Minimal-when-none-drops}
+use Rattle.diagnosis.proofs.Simulated.{brings-more}
 use Rattle.diagnosis.proofs.Subsets.{ascends-from-lower, within-both}
 
 -- ── more marks ──

@@ -26,9 +26,9 @@ forced-by-reading (x ∷ S) w g m =
     ⊎-elim
     (λ t. cond-true (eqb g x) _ _ t ∙ lowest-bit (w x) _ ∙ ap w (sym (eqb-true g x t)))
     (λ f.
-        cond-false (eqb g x) _ _ f
-        ∙ ap (λ b. forcedBy S b g) (higher-bits (w x) (reading S w))
-        ∙ forced-by-reading S w g (⊎-elim (λ u. absurd (false≢true (sym f ∙ u))) (λ r. r) (or-cases (eqb g x) _ m)))
+    cond-false (eqb g x) _ _ f
+    ∙ ap (λ b. forcedBy S b g) (higher-bits (w x) (reading S w))
+    ∙ forced-by-reading S w g (⊎-elim (λ u. absurd (false≢true (sym f ∙ u))) (λ r. r) (or-cases (eqb g x) _ m)))
     (cases-bool (eqb g x))
 
 pub readings-bring-out : Readings-bring-out

@@ -1,20 +1,21 @@
--- The list that computes is the full list, and there is no other.
+-- The list that computes is the full list, and there is no other; each set that explains contains a minimal one.
 use mathlib.Core.Path.{_≡_, sym, _∙_}
 use mathlib.Core.Bool.{Bool, true, not, false≢true}
 use mathlib.Core.List.{List}
 use mathlib.Core.Logic.{⊎-elim, _↔_}
-use Prim.Native.Nat.{ℕ, suc}
+use Prim.Native.Nat.{ℕ, zero, suc, _≤_}
 use native.Mathlib.Omega.{arith}
 use lib.ListN.{length}
 use Rattle.std.proofs.shelf.Tests.{cases-bool, and-parts, and-from, not-true, not-from-false}
-use Rattle.diagnosis.specs.Sets.{IsSet}
+use Rattle.circuit.specs.Lists.{any}
+use Rattle.diagnosis.specs.Sets.{IsSet, Within}
 use Rattle.diagnosis.specs.Explains.{ExplainsSet}
 use Rattle.diagnosis.specs.Minimal.{Minimal, IsFullList}
 use Rattle.diagnosis.specs.FullList.{properSubsets, minimal, sizes, minimalSets, explainsCase}
-use Rattle.diagnosis.specs.Laws.{List-is-full, One-full-list}
-use Rattle.diagnosis.proofs.Members.{from-kept, in-kept, all-at, all-from}
+use Rattle.diagnosis.specs.ListLaws.{Explaining-contains-minimal, Full-list-exact, Full-list-unique}
+use Rattle.diagnosis.proofs.Members.{from-kept, in-kept, all-at, all-from, any-at, any-from}
 use Rattle.diagnosis.proofs.Ordered.{order-kept, order-unique}
-use Rattle.diagnosis.proofs.Subsets.{proper-tried, tried-proper}
+use Rattle.diagnosis.proofs.Subsets.{proper-length, proper-tried, tried-proper}
 use Rattle.diagnosis.proofs.Chosen.{from-sizes, in-sizes, sizes-order}
 use Rattle.diagnosis.proofs.Searched.{case-decides}
 
@@ -39,11 +40,31 @@ module _ (n : ℕ) (Explaining : List ℕ → Type 0) (explaining : List ℕ →
     order = order-kept (minimal explaining) (sizes n 0 (suc N)) (sizes-order n 0 (suc N));
   }
 
-pub list-is-full : List-is-full
-list-is-full c ts N = minimal-sets-full (length (c .gates)) (ExplainsSet c ts) (explainsCase c ts) (case-decides c ts) N
+  -- a set that explains and is not minimal has a smaller one that explains, and so on down
+  contains-minimal-of : (k : ℕ) (S : List ℕ) → length S ≤ k → IsSet n S → Explaining S → (T : List ℕ) × IsSet n T × Within T S × Minimal n Explaining T
+  contains-minimal-of zero S le s x = (S, s, λ g m. m, (x, λ T t p y. let l = proper-length S T (proper-tried n S T s t p) in omega arith))
+  contains-minimal-of (suc k) S le s x =
+      ⊎-elim
+      (λ some.
+      let (T, i, y) = any-at explaining (properSubsets S) some in
+      let (t, p) = tried-proper n S T s i in
+      let l = proper-length S T i in
+      let (R, r, w, m) = contains-minimal-of k T (omega arith) t (decides T .0 y) in
+      (R, r, λ g q. p .0 g (w g q), m))
+      (λ none. (S, s, λ g m. m, (x, λ T t p y. false≢true (sym none ∙ any-from explaining (properSubsets S) T (proper-tried n S T s t p) (decides T .1 y)))))
+      (cases-bool (any explaining (properSubsets S)))
 
-pub full-list-unique : (n : ℕ) (Explaining : List ℕ → Type 0) (N : ℕ) (K L : List (List ℕ)) → IsFullList n Explaining N K → IsFullList n Explaining N L → K ≡ L
-full-list-unique n Explaining N K L k l = order-unique K L (k .order) (l .order) (λ S i. l .each S .1 (k .each S .0 i)) (λ S i. k .each S .1 (l .each S .0 i))
+  pub contains-minimal : (S : List ℕ) → IsSet n S → Explaining S → (T : List ℕ) × IsSet n T × Within T S × Minimal n Explaining T
+  contains-minimal S s x = contains-minimal-of (length S) S (omega arith) s x
 
-pub one-full-list : One-full-list
-one-full-list c ts N K L k l = full-list-unique (length (c .gates)) (ExplainsSet c ts) N K L k l
+pub explaining-contains-minimal : Explaining-contains-minimal
+explaining-contains-minimal c ts S s x = contains-minimal (length (c .gates)) (ExplainsSet c ts) (explainsCase c ts) (case-decides c ts) S s x
+
+pub full-list-exact : Full-list-exact
+full-list-exact c ts N = minimal-sets-full (length (c .gates)) (ExplainsSet c ts) (explainsCase c ts) (case-decides c ts) N
+
+pub unique : (n : ℕ) (Explaining : List ℕ → Type 0) (N : ℕ) (K L : List (List ℕ)) → IsFullList n Explaining N K → IsFullList n Explaining N L → K ≡ L
+unique n Explaining N K L k l = order-unique K L (k .order) (l .order) (λ S i. l .each S .1 (k .each S .0 i)) (λ S i. k .each S .1 (l .each S .0 i))
+
+pub full-list-unique : Full-list-unique
+full-list-unique c ts N K L k l = unique (length (c .gates)) (ExplainsSet c ts) N K L k l

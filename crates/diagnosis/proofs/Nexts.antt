@@ -1,21 +1,22 @@
 -- The first candidate is the next set of a full list, and without candidates the list is at its end.
 use mathlib.Core.Path.{_≡_, refl, sym, ap, subst, _∙_}
-use mathlib.Core.Bool.{true, false, _||_, false≢true}
-use mathlib.Core.List.{List, [], _∷_, _++_}
-use mathlib.Core.Logic.{inl, inr, ⊎-elim}
+use mathlib.Core.Bool.{true, false, _||_}
+use mathlib.Core.List.{List, [], _∷_, _++_, append-nil, append-assoc}
+use mathlib.Core.Logic.{inl, ⊎-elim}
 use Prim.Native.Nat.{ℕ, suc, _≤_, _<_}
 use native.Mathlib.Omega.{arith}
 use lib.Dec.{eqb}
 use lib.ListN.{length}
-use Rattle.std.proofs.shelf.Tests.{cases-bool, eq-eqb, ne-eqb, or-from, or-right}
+use Rattle.std.proofs.shelf.Tests.{cases-bool, ne-eqb, or-from, or-right}
 use Rattle.diagnosis.specs.Sets.{member, Ascends, IsSet, Within}
 use Rattle.diagnosis.specs.Explains.{ExplainsSet}
 use Rattle.diagnosis.specs.Order.{Lower, Before, In, InOrder}
 use Rattle.diagnosis.specs.Minimal.{Minimal, IsFullList}
-use Rattle.diagnosis.specs.Next.{Candidate, Agree-before, Followed-by, Ends-without-candidates, First-candidate-is-next, Next-by-gates}
+use Rattle.diagnosis.specs.Next.{Begins, Candidate, Agree-before, Ends-without-candidates, First-candidate-is-next, Next-by-gates}
 use Rattle.diagnosis.proofs.Members.{in-front, in-back, in-either}
 use Rattle.diagnosis.proofs.Ordered.{before-itself, order-back, order-across}
-use Rattle.diagnosis.proofs.Subsets.{member-range, no-member-below, member-first, whole-or-fewer, within-both}
+use Rattle.diagnosis.proofs.Subsets.{member-range, no-member-below, member-first, whole-or-fewer}
+use Rattle.diagnosis.proofs.Listed.{explaining-contains-minimal}
 
 -- ── of two sets the lower has the first gate that is not in both ──
 not-below : (a n : ℕ) (S : List ℕ) → Ascends a n S → (g : ℕ) → g < a → member S g ≡ false
@@ -39,26 +40,42 @@ lower-first a n (x ∷ T) (y ∷ S) t s h =
     (g, or-right (eqb g x) _ on, or-from (eqb g y) _ (ne-eqb g y (λ q. omega arith)) off, λ i l. λ k. eqb i (e k) || same i l k))
     h
 
-module _ (n : ℕ) (Explaining : List ℕ → Type 0) (N : ℕ) (given rest : List (List ℕ)) (full : IsFullList n Explaining N (given ++ rest)) where
+module _ (n : ℕ) (Explaining : List ℕ → Type 0) (N : ℕ) (L given : List (List ℕ)) (full : IsFullList n Explaining N L) (begins : Begins given L) where
+  given-in : (D : List ℕ) → In D given → In D L
+  given-in D d = subst (λ (l : List (List ℕ)). In D l) (begins .1) (in-front D given (begins .0) d)
+
+  rest-in : (R : List ℕ) → In R (begins .0) → In R L
+  rest-in R r = subst (λ (l : List (List ℕ)). In R l) (begins .1) (in-back R given (begins .0) r)
+
+  order : InOrder (given ++ begins .0)
+  order = subst (λ (l : List (List ℕ)). InOrder l) (sym (begins .1)) (full .order)
+
   -- the sets still to come are candidates
-  pub to-come : (R : List ℕ) → In R rest → Candidate n Explaining N given R
+  pub to-come : (R : List ℕ) → In R (begins .0) → Candidate n Explaining N given R
   to-come R r =
-      let (set, few, min) = full .each R .0 (in-back R given rest r) in
+      let (set, few, min) = full .each R .0 (rest-in R r) in
       record {
         set = set;
         few = few;
         explains = min .0;
         fresh = λ D d w.
-            let (dset, dfew, dmin) = full .each D .0 (in-front D given rest d) in
-            min .1 D dset (w, λ e. before-itself R (subst (λ (X : List ℕ). Before X R) e (order-across given rest (full .order) D R d r))) (dmin .0);
+            let (dset, dfew, dmin) = full .each D .0 (given-in D d) in
+            min .1 D dset (w, λ e. before-itself R (subst (λ (X : List ℕ). Before X R) e (order-across given (begins .0) order D R d r))) (dmin .0);
       }
 
-  pub end-without-candidates : ((S : List ℕ) → Candidate n Explaining N given S → ⊥) → rest ≡ []
-  end-without-candidates none = at rest refl
+  pub end-without-candidates : ((S : List ℕ) → Candidate n Explaining N given S → ⊥) → given ≡ L
+  end-without-candidates none = sym (append-nil given) ∙ ap (λ r. given ++ r) (sym (empty (begins .0) (λ R r. none R (to-come R r)))) ∙ begins .1
     where
-      at : (r : List (List ℕ)) → rest ≡ r → rest ≡ []
-      at [] e = e
-      at (R ∷ r) e = absurd (none R (to-come R (subst (λ (l : List (List ℕ)). In R l) (sym e) (inl refl))))
+      empty : (r : List (List ℕ)) → ((R : List ℕ) → In R r → ⊥) → r ≡ []
+      empty [] none = refl
+      empty (R ∷ r) none = absurd (none R (inl refl))
+
+  -- what explains contains a minimal set, which was given with the whole list
+  pub no-candidate-at-end : ((S : List ℕ) → IsSet n S → Explaining S → (T : List ℕ) × IsSet n T × Within T S × Minimal n Explaining T) → given ≡ L → (S : List ℕ) → Candidate n Explaining N given S → ⊥
+  no-candidate-at-end contains e S cand =
+      let (T, t, w, m) = contains S (cand .set) (cand .explains) in
+      let few : length T ≤ length S = ⊎-elim (λ q. let l = ap length q in omega arith) (λ lt. omega arith) (whole-or-fewer n S T (cand .set) t w) in
+      cand .fresh T (subst (λ (l : List (List ℕ)). In T l) (sym e) (full .each T .1 (t, omega (arith, cand .few), m))) w
 
   module _ (S : List ℕ) (cand : Candidate n Explaining N given S) where
     -- the first candidate is minimal, since a subset of it that explains would be a candidate and come before
@@ -72,24 +89,22 @@ module _ (n : ℕ) (Explaining : List ℕ → Type 0) (N : ℕ) (given rest : Li
           (whole-or-fewer n S T (cand .set) t (p .0)),
     )
 
-    pub first-is-next : ((T : List ℕ) → Candidate n Explaining N given T → Before T S → ⊥) → Followed-by rest S
-    first-is-next first = ⊎-elim (λ front. absurd (cand .fresh S front (λ g m. m))) (λ back. at rest refl back) (in-either S given rest (full .each S .1 (cand .set, cand .few, first-minimal first)))
+    pub first-is-next : ((T : List ℕ) → Candidate n Explaining N given T → Before T S → ⊥) → Begins (given ++ S ∷ []) L
+    first-is-next first =
+        ⊎-elim
+        (λ front. absurd (cand .fresh S front (λ g m. m)))
+        (λ back. let (more, e) = foremost (begins .0) (order-back given (begins .0) order) (λ R r. first R (to-come R r)) back in (more, append-assoc given (S ∷ []) more ∙ ap (λ r. given ++ r) (sym e) ∙ begins .1))
+        (in-either S given (begins .0) (subst (λ (l : List (List ℕ)). In S l) (sym (begins .1)) (full .each S .1 (cand .set, cand .few, first-minimal first))))
       where
-        at : (r : List (List ℕ)) → rest ≡ r → In S r → Followed-by rest S
-        at [] e h = absurd h
-        at (R ∷ r) e h =
-            ⊎-elim
-            (λ same. (r, e ∙ ap (λ x. x ∷ r) (sym same)))
-            (λ later.
-            let order : InOrder (R ∷ r) = subst (λ (l : List (List ℕ)). InOrder l) e (order-back given rest (full .order)) in
-            absurd (first R (to-come R (subst (λ (l : List (List ℕ)). In R l) (sym e) (inl refl))) (order .0 S later)))
-            h
+        foremost : (r : List (List ℕ)) → InOrder r → ((R : List ℕ) → In R r → Before R S → ⊥) → In S r → (more : List (List ℕ)) × (r ≡ S ∷ more)
+        foremost [] o none h = absurd h
+        foremost (R ∷ r) o none h = ⊎-elim (λ same. (r, ap (λ X. X ∷ r) (sym same))) (λ later. absurd (none R (inl refl) (o .0 S later))) h
 
-    pub next-by-gates-of :
+    pub smallest-earliest-is-next :
         ((T : List ℕ) → Candidate n Explaining N given T → length T < length S → ⊥)
-        → ((g : ℕ) → 1 ≤ g → g ≤ n → member S g ≡ false → (T : List ℕ) → Candidate n Explaining N given T → length T ≡ length S → Agree-before g T S → member T g ≡ true → ⊥)
-        → Followed-by rest S
-    next-by-gates-of smallest earliest =
+        → ((g : ℕ) (T : List ℕ) → 1 ≤ g → g ≤ n → member S g ≡ false → Candidate n Explaining N given T → length T ≡ length S → Agree-before g T S → member T g ≡ true → ⊥)
+        → Begins (given ++ S ∷ []) L
+    smallest-earliest-is-next smallest earliest =
         first-is-next
         (λ T t before.
         ⊎-elim
@@ -97,14 +112,17 @@ module _ (n : ℕ) (Explaining : List ℕ → Type 0) (N : ℕ) (given rest : Li
         (λ r.
         let (g, on, off, same) = lower-first 1 n T S (t .set) (cand .set) (r .1) in
         let (low, high) = member-range 1 n T (t .set) g on in
-        earliest g low high off T t (r .0) (λ i l u. same i u) on)
+        earliest g T low high off t (r .0) (λ i l u. same i u) on)
         before)
 
 pub ends-without-candidates : Ends-without-candidates
-ends-without-candidates c ts N given rest full none = end-without-candidates (length (c .gates)) (ExplainsSet c ts) N given rest full none
+ends-without-candidates c ts N L given full begins = (
+  no-candidate-at-end (length (c .gates)) (ExplainsSet c ts) N L given full begins (explaining-contains-minimal c ts),
+  end-without-candidates (length (c .gates)) (ExplainsSet c ts) N L given full begins,
+)
 
 pub first-candidate-is-next : First-candidate-is-next
-first-candidate-is-next c ts N given rest full S cand first = first-is-next (length (c .gates)) (ExplainsSet c ts) N given rest full S cand first
+first-candidate-is-next c ts N L given full begins S cand first = first-is-next (length (c .gates)) (ExplainsSet c ts) N L given full begins S cand first
 
 pub next-by-gates : Next-by-gates
-next-by-gates c ts N given rest full S cand smallest earliest = next-by-gates-of (length (c .gates)) (ExplainsSet c ts) N given rest full S cand smallest earliest
+next-by-gates c ts N L given full begins S cand smallest earliest = smallest-earliest-is-next (length (c .gates)) (ExplainsSet c ts) N L given full begins S cand smallest earliest

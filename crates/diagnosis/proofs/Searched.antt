@@ -12,7 +12,7 @@ use Rattle.diagnosis.specs.Sets.{member}
 use Rattle.diagnosis.specs.Explains.{Values, bringsOut, Explains, ExplainsSet}
 use Rattle.diagnosis.specs.Order.{In}
 use Rattle.diagnosis.specs.FullList.{force, choices, explains, explainsCase}
-use Rattle.diagnosis.specs.Laws.{Search-decides}
+use Rattle.diagnosis.specs.ExplainingLaws.{Search-decides}
 use Rattle.diagnosis.proofs.Members.{in-front, in-back, in-map, any-at, any-from}
 use Rattle.diagnosis.proofs.Simulated.{brings-forced}
 

@@ -12,23 +12,23 @@ use Rattle.std.proofs.shelf.Tests.{cond-false}
 use Rattle.circuit.specs.Circuits.{Gate, Circuit}
 use Rattle.circuit.specs.Tests.{Test}
 use Rattle.diagnosis.specs.Sets.{Marks}
-use Rattle.diagnosis.specs.Explains.{Values, numbered, computed, settled, simulate, values, agree, bringsOut}
+use Rattle.diagnosis.specs.Explains.{Values, numbered, computed, gateValue, simulate, values, agree, bringsOut}
 
 -- the values of the gates before stay, and each gate adds one
 pub simulate-front : (s : Marks) (w : Values) (inputs : List Bool) (n : ℕ) (vs : List Bool) (gs : List Gate) (j : ℕ) → j < length vs → getD (simulate s w inputs n vs gs) j false ≡ getD vs j false
 simulate-front s w inputs n vs [] j lt = refl
-simulate-front s w inputs n vs (g ∷ gs) j lt = let v : Bool = settled s w inputs n vs g in simulate-front s w inputs (suc n) (vs ++ v ∷ []) gs j (omega (arith, length-push vs v)) ∙ getD-append-left vs _ false j lt
+simulate-front s w inputs n vs (g ∷ gs) j lt = let v : Bool = gateValue s w inputs n vs g in simulate-front s w inputs (suc n) (vs ++ v ∷ []) gs j (omega (arith, length-push vs v)) ∙ getD-append-left vs _ false j lt
 
 pub simulate-length : (s : Marks) (w : Values) (inputs : List Bool) (n : ℕ) (vs : List Bool) (gs : List Gate) → length (simulate s w inputs n vs gs) ≡ length vs + length gs
 simulate-length s w inputs n vs [] = sym (add-zero _)
-simulate-length s w inputs n vs (g ∷ gs) = let v : Bool = settled s w inputs n vs g in simulate-length s w inputs (suc n) (vs ++ v ∷ []) gs ∙ omega (arith, length-push vs v)
+simulate-length s w inputs n vs (g ∷ gs) = let v : Bool = gateValue s w inputs n vs g in simulate-length s w inputs (suc n) (vs ++ v ∷ []) gs ∙ omega (arith, length-push vs v)
 
 -- only values forced on marked gates count
 pub simulate-forced : (s : Marks) (w v : Values) (inputs : List Bool) (n : ℕ) (vs : List Bool) (gs : List Gate) → ((g : ℕ) → s g ≡ true → w g ≡ v g) → simulate s w inputs n vs gs ≡ simulate s v inputs n vs gs
 simulate-forced s w v inputs n vs [] same = refl
 simulate-forced s w v inputs n vs (g ∷ gs) same = ap (λ b. simulate s w inputs (suc n) (vs ++ b ∷ []) gs) (here (s n) refl) ∙ simulate-forced s w v inputs (suc n) _ gs same
   where
-    here : (b : Bool) → s n ≡ b → settled s w inputs n vs g ≡ settled s v inputs n vs g
+    here : (b : Bool) → s n ≡ b → gateValue s w inputs n vs g ≡ gateValue s v inputs n vs g
     here true t = ap (λ b. cond (s n) b (computed inputs vs g)) (same n t)
     here false t = cond-false (s n) _ _ t ∙ sym (cond-false (s n) _ _ t)
 
@@ -47,7 +47,7 @@ pub simulate-as-is :
 simulate-as-is s r w inputs vs [] V more is = is
 simulate-as-is s r w inputs vs (g ∷ gs) V more is =
     let n : ℕ = length vs in
-    let v : Bool = settled s w inputs (suc n) vs g in
+    let v : Bool = gateValue s w inputs (suc n) vs g in
     let longer : length (vs ++ v ∷ []) ≡ suc n = omega (arith, length-push vs v) in
     let later : simulate r (numbered V) inputs (suc (length (vs ++ v ∷ []))) (vs ++ v ∷ []) gs ≡ V = simulate-as-is s r w inputs (vs ++ v ∷ []) gs V more (ap (λ k. simulate s w inputs (suc k) (vs ++ v ∷ []) gs) longer ∙ is) in
     let stands : getD V n false ≡ v = ap (λ l. getD l n false) (sym is) ∙ simulate-front s w inputs (suc (suc n)) (vs ++ v ∷ []) gs n (omega arith) ∙ getD-push vs v false n refl in

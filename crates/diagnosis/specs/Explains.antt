@@ -1,8 +1,10 @@
 -- What explains a test, and what explains a case.
 --   Values         for every gate number, the value forced on that gate where it is marked
---   numbered       the element of a list with a number, counted from 1
+--   numbered       the bit of a list with a number, counted from 1
 --   value          a signal's value, given the inputs' values and the gates' values
---   simulate       gates' values in file order, each after those of the gates before it
+--   computed       what a gate's function gives for its operands' values
+--   gateValue      the value of the gate numbered n: the forced value if it is marked, else what its function gives
+--   simulate       gates' values in file order, after the values vs of the gates before; the first of them has number n
 --   values         the values of all gates of a circuit
 --   agrees         whether an output's value is the one measured there; an output that was not measured asks nothing
 --   agree          the same of all outputs; a list of measurements that is too short or too long agrees with nothing
@@ -37,17 +39,15 @@ abbrev pub value : List Bool → List Bool → Signal → Bool
 value inputs vs (signal.Input i) = numbered inputs i
 value inputs vs (signal.Gate g) = numbered vs g
 
--- what a gate's function gives, and what the gate numbered n then has: the forced value if it is marked
 abbrev pub computed : List Bool → List Bool → Gate → Bool
 computed inputs vs g = gives (g .kind) (map (value inputs vs) (g .operands))
 
-abbrev pub settled : Marks → Values → List Bool → ℕ → List Bool → Gate → Bool
-settled s w inputs n vs g = cond (s n) (w n) (computed inputs vs g)
+abbrev pub gateValue : Marks → Values → List Bool → ℕ → List Bool → Gate → Bool
+gateValue s w inputs n vs g = cond (s n) (w n) (computed inputs vs g)
 
--- vs are the values of the gates before; the next gate has number n
 abbrev pub simulate : Marks → Values → List Bool → ℕ → List Bool → List Gate → List Bool
 simulate s w inputs n vs [] = vs
-simulate s w inputs n vs (g ∷ gs) = simulate s w inputs (suc n) (vs ++ settled s w inputs n vs g ∷ []) gs
+simulate s w inputs n vs (g ∷ gs) = simulate s w inputs (suc n) (vs ++ gateValue s w inputs n vs g ∷ []) gs
 
 abbrev pub values : Circuit → Marks → Values → List Bool → List Bool
 values c s w inputs = simulate s w inputs 1 [] (c .gates)

@@ -4,6 +4,7 @@ pub mod Order
 pub mod Minimal
 pub mod FullList
 pub mod SmallCircuits
-pub mod Laws
+pub mod ExplainingLaws
+pub mod ListLaws
 pub mod Next
 pub mod Readings

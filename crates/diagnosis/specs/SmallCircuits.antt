@@ -17,10 +17,10 @@ abbrev pub P : Circuit
 P = record {
   inputs = 3;
   gates =
-    (record { kind = And; operands = signal.Input 1 ∷ signal.Input 2 ∷ [] })
-    ∷ (record { kind = Or; operands = signal.Gate 1 ∷ signal.Input 3 ∷ [] })
-    ∷ (record { kind = Not; operands = signal.Gate 1 ∷ [] })
-    ∷ [];
+      (record { kind = And; operands = signal.Input 1 ∷ signal.Input 2 ∷ [] })
+      ∷ (record { kind = Or; operands = signal.Gate 1 ∷ signal.Input 3 ∷ [] })
+      ∷ (record { kind = Not; operands = signal.Gate 1 ∷ [] })
+      ∷ [];
   outputs = signal.Gate 2 ∷ signal.Gate 3 ∷ [];
 }
 

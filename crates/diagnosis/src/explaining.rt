@@ -1,28 +1,27 @@
-// The laws of explaining. Each function does nothing: its contract is the law, and the check asks for its proof.
-ghost use Rattle.diagnosis.specs.Laws.{Search-decides, Supersets-explain, Minimal-when-none-drops, Tests-force-apart};
+// The laws of explaining.
+ghost use Rattle.diagnosis.specs.ExplainingLaws.{Gate-values-consistent, Explained-tests-fit, Search-decides, Supersets-explain, Tests-need-own-values};
 ghost use Rattle.diagnosis.specs.Readings.{Readings-bring-out};
+
+pub fn gate_values_are_consistent()
+    ensures { λ _. ⌜ Gate-values-consistent ⌝ }
+{}
+
+pub fn explained_tests_fit()
+    ensures { λ _. ⌜ Explained-tests-fit ⌝ }
+{}
 
 pub fn search_decides()
     ensures { λ _. ⌜ Search-decides ⌝ }
-{
-}
+{}
 
 pub fn supersets_explain()
     ensures { λ _. ⌜ Supersets-explain ⌝ }
-{
-}
+{}
 
-pub fn minimal_when_none_drops()
-    ensures { λ _. ⌜ Minimal-when-none-drops ⌝ }
-{
-}
-
-pub fn tests_force_apart()
-    ensures { λ _. ⌜ Tests-force-apart ⌝ }
-{
-}
+pub fn tests_need_own_values()
+    ensures { λ _. ⌜ Tests-need-own-values ⌝ }
+{}
 
 pub fn readings_bring_out()
     ensures { λ _. ⌜ Readings-bring-out ⌝ }
-{
-}
+{}

@@ -1,16 +1,21 @@
 // Diagnosis: which sets of gates explain what was measured, and the full list of the minimal ones.
+// Every function here does nothing: its contract is a law of the definitions, and the check asks for its proof.
 mod explaining;
 mod listing;
+mod next;
 mod table;
 
-pub use explaining::minimal_when_none_drops;
+pub use explaining::explained_tests_fit;
+pub use explaining::gate_values_are_consistent;
 pub use explaining::readings_bring_out;
 pub use explaining::search_decides;
 pub use explaining::supersets_explain;
-pub use explaining::tests_force_apart;
-pub use listing::ends_without_candidates;
-pub use listing::first_candidate_is_next;
-pub use listing::list_is_full;
-pub use listing::next_by_gates;
-pub use listing::one_full_list;
+pub use explaining::tests_need_own_values;
+pub use listing::explaining_contains_minimal;
+pub use listing::full_list_is_exact;
+pub use listing::full_list_is_unique;
+pub use listing::minimal_when_none_drops;
+pub use next::ends_without_candidates;
+pub use next::first_candidate_is_next;
+pub use next::next_by_gates;
 pub use table::small_circuits_are_listed;

@@ -1,28 +1,18 @@
-// The laws of the full list. Each function does nothing: its contract is the law, and the check asks for its proof.
-ghost use Rattle.diagnosis.specs.Laws.{List-is-full, One-full-list};
-ghost use Rattle.diagnosis.specs.Next.{Ends-without-candidates, First-candidate-is-next, Next-by-gates};
+// The laws of minimal sets and of the full list.
+ghost use Rattle.diagnosis.specs.ListLaws.{Minimal-when-none-drops, Explaining-contains-minimal, Full-list-exact, Full-list-unique};
 
-pub fn list_is_full()
-    ensures { λ _. ⌜ List-is-full ⌝ }
-{
-}
+pub fn minimal_when_none_drops()
+    ensures { λ _. ⌜ Minimal-when-none-drops ⌝ }
+{}
 
-pub fn one_full_list()
-    ensures { λ _. ⌜ One-full-list ⌝ }
-{
-}
+pub fn explaining_contains_minimal()
+    ensures { λ _. ⌜ Explaining-contains-minimal ⌝ }
+{}
 
-pub fn ends_without_candidates()
-    ensures { λ _. ⌜ Ends-without-candidates ⌝ }
-{
-}
+pub fn full_list_is_exact()
+    ensures { λ _. ⌜ Full-list-exact ⌝ }
+{}
 
-pub fn first_candidate_is_next()
-    ensures { λ _. ⌜ First-candidate-is-next ⌝ }
-{
-}
-
-pub fn next_by_gates()
-    ensures { λ _. ⌜ Next-by-gates ⌝ }
-{
-}
+pub fn full_list_is_unique()
+    ensures { λ _. ⌜ Full-list-unique ⌝ }
+{}

@@ -3,5 +3,4 @@ ghost use Rattle.diagnosis.specs.SmallCircuits.{Found-as-listed};
 
 pub fn small_circuits_are_listed()
     ensures { λ _. ⌜ Found-as-listed ⌝ }
-{
-}
+{}

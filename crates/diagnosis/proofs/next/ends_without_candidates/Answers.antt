@@ -1,5 +1,5 @@
 use Rattle.diagnosis.proofs.Nexts.{ends-without-candidates}
-use Rattle.diagnosis.proofs.listing.ends_without_candidates.Needs as need
+use Rattle.diagnosis.proofs.next.ends_without_candidates.Needs as need
 
 pub returns : need.returns
 returns c = ends-without-candidates

@@ -1,5 +1,5 @@
 use Rattle.diagnosis.proofs.Dropped.{minimal-when-none-drops}
-use Rattle.diagnosis.proofs.explaining.minimal_when_none_drops.Needs as need
+use Rattle.diagnosis.proofs.listing.minimal_when_none_drops.Needs as need
 
 pub returns : need.returns
 returns c = minimal-when-none-drops

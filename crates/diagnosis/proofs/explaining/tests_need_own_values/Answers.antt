@@ -1,8 +1,7 @@
 use mathlib.Core.Path.{_≡_, refl}
 use mathlib.Core.Bool.{Bool, true, false, not, _&&_, _||_, Bool·beq, false≢true}
 use Rattle.std.proofs.shelf.Tests.{and-parts}
-use Rattle.diagnosis.proofs.explaining.tests_force_apart.Needs as need
-use Prim.Native.Nat.{ℕ}
+use Rattle.diagnosis.proofs.explaining.tests_need_own_values.Needs as need
 use lib.Dec.{eqb}
 
 -- the value forced on m shows at z, in the one test as 1 and in the other as 0

@@ -1,5 +1,5 @@
 use Rattle.diagnosis.proofs.Nexts.{next-by-gates}
-use Rattle.diagnosis.proofs.listing.next_by_gates.Needs as need
+use Rattle.diagnosis.proofs.next.next_by_gates.Needs as need
 
 pub returns : need.returns
 returns c = next-by-gates
