@@ -1,8 +1,8 @@
 -- The list that computes is the full list, and there is no other; each set that explains contains a minimal one.
-use mathlib.Core.Path.{_≡_, sym, _∙_}
+use mathlib.Core.Path.{_≡_, refl, sym, subst, _∙_}
 use mathlib.Core.Bool.{Bool, true, not, false≢true}
-use mathlib.Core.List.{List}
-use mathlib.Core.Logic.{⊎-elim, _↔_}
+use mathlib.Core.List.{List, _∷_, _++_}
+use mathlib.Core.Logic.{inl, ⊎-elim, _↔_}
 use Prim.Native.Nat.{ℕ, zero, suc, _≤_}
 use native.Mathlib.Omega.{arith}
 use lib.ListN.{length}
@@ -10,11 +10,12 @@ use Rattle.std.proofs.shelf.Tests.{cases-bool, and-parts, and-from, not-true, n
 use Rattle.circuit.specs.Lists.{any}
 use Rattle.diagnosis.specs.Sets.{IsSet, Within}
 use Rattle.diagnosis.specs.Explains.{ExplainsSet}
+use Rattle.diagnosis.specs.Order.{InOrder}
 use Rattle.diagnosis.specs.Minimal.{Minimal, IsFullList}
 use Rattle.diagnosis.specs.FullList.{properSubsets, minimal, sizes, minimalSets, explainsCase}
-use Rattle.diagnosis.specs.ListLaws.{Explaining-contains-minimal, Full-list-exact, Full-list-unique}
+use Rattle.diagnosis.specs.ListLaws.{Explaining-contains-minimal, Full-list-exact, Full-list-unique, Full-list-once}
 use Rattle.diagnosis.proofs.Members.{from-kept, in-kept, all-at, all-from, any-at, any-from}
-use Rattle.diagnosis.proofs.Ordered.{order-kept, order-unique}
+use Rattle.diagnosis.proofs.Ordered.{before-itself, order-across, order-back, order-kept, order-unique}
 use Rattle.diagnosis.proofs.Subsets.{proper-length, proper-tried, tried-proper}
 use Rattle.diagnosis.proofs.Chosen.{from-sizes, in-sizes, sizes-order}
 use Rattle.diagnosis.proofs.Searched.{case-decides}
@@ -68,3 +69,11 @@ unique n Explaining N K L k l = order-unique K L (k .order) (l .order) (λ S i. 
 
 pub full-list-unique : Full-list-unique
 full-list-unique c ts N K L k l = unique (length (c .gates)) (ExplainsSet c ts) N K L k l
+
+pub full-list-once : Full-list-once
+full-list-once c ts N L l S before after e twice =
+    let order : InOrder (before ++ S ∷ after) = subst (λ (K : List (List ℕ)). InOrder K) (sym e) (l .order) in
+    ⊎-elim
+    (λ i. before-itself S (order-across before (S ∷ after) order S S i (inl refl)))
+    (λ i. before-itself S (order-back before (S ∷ after) order .0 S i))
+    twice

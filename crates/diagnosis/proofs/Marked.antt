@@ -11,7 +11,7 @@ use lib.ListN.{length}
 use Rattle.std.proofs.shelf.Tests.{eq-eqb, ne-eqb, cases-bool, cases-lt, cases-eq, cond-true, cond-false, or-left, or-from}
 use Rattle.circuit.specs.Circuits.{Circuit}
 use Rattle.circuit.specs.Tests.{Test}
-use Rattle.diagnosis.specs.Sets.{Marks, member, Ascends, IsSet, markedFrom, marked, count}
+use Rattle.diagnosis.specs.Sets.{Marks, member, Ascends, IsSet, markedFrom, marked, count, Marked-gates-set}
 use Rattle.diagnosis.specs.Explains.{ExplainsCase}
 use Rattle.diagnosis.proofs.Simulated.{brings-marks}
 use Rattle.diagnosis.proofs.Subsets.{ascends-from-lower, no-member-below}
@@ -93,6 +93,9 @@ marked-from-set n a (suc m) (x ∷ S) e asc =
 
 pub set-marked : (n : ℕ) (S : List ℕ) → IsSet n S → marked (member S) n ≡ S
 set-marked n S s = marked-from-set n 1 n S (omega arith) s
+
+pub marked-gates-set : Marked-gates-set
+marked-gates-set = record { set = marked-set; marks = marked-member; size = λ s n. sym (marked-count s n); own = set-marked }
 
 pub set-count : (n : ℕ) (S : List ℕ) → IsSet n S → count (member S) n ≡ length S
 set-count n S s = marked-count (member S) n ∙ ap length (set-marked n S s)

@@ -1,0 +1,5 @@
+use Rattle.diagnosis.proofs.Ordered.{order-strict-total}
+use Rattle.diagnosis.proofs.listing.order_is_strict_and_total.Needs as need
+
+pub returns : need.returns
+returns c = order-strict-total
