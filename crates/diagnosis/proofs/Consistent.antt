@@ -1,10 +1,9 @@
 -- The simulated values are the only consistent ones, if operands come before their gates.
 use mathlib.Core.Path.{_≡_, refl, sym, ap, subst, _∙_}
-use mathlib.Core.Bool.{Bool, true, false, cond, _&&_}
-use mathlib.Core.List.{List, [], _∷_, _++_, map, append-assoc}
+use mathlib.Core.Bool.{Bool, true, false, cond}
+use mathlib.Core.List.{List, [], _∷_, _++_, map}
 use mathlib.Core.Logic.{⊎-elim}
-use Prim.Native.Nat.{ℕ, zero, suc, _+_, _≤_, _<_}
-use native.Mathlib.Nat.{add-zero}
+use Prim.Native.Nat.{ℕ, zero, suc, _+_, _<_}
 use native.Mathlib.Omega.{arith}
 use lib.Dec.{leb}
 use lib.ListN.{length, getD}
@@ -14,10 +13,10 @@ use Rattle.circuit.specs.declared.gate.Signal.{Signal}
 use Rattle.circuit.specs.declared.gate.Signal.the-variants as signal
 use Rattle.circuit.specs.Kinds.{gives}
 use Rattle.circuit.specs.Lists.{all}
-use Rattle.circuit.specs.Circuits.{Gate, Circuit, there, fits, wired}
+use Rattle.circuit.specs.Circuits.{Gate, there, fits, wired}
 use Rattle.diagnosis.specs.Sets.{Marks}
-use Rattle.diagnosis.specs.Explains.{Values, numbered, value, computed, gateValue, simulate, values}
-use Rattle.diagnosis.specs.ExplainingLaws.{Consistent, Gate-values-consistent}
+use Rattle.diagnosis.specs.Explains.{Values, value, gateValue, simulate}
+use Rattle.diagnosis.specs.ExplainingLaws.{Gate-values-consistent}
 use Rattle.diagnosis.proofs.Simulated.{simulate-front, simulate-length}
 
 -- ── operands that are there have the same value by any values that begin alike ──

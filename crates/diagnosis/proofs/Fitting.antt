@@ -1,6 +1,6 @@
 -- A test that is brought out fits the circuit.
 use mathlib.Core.Path.{_≡_, refl, ap}
-use mathlib.Core.Bool.{Bool, true, _&&_, false≢true}
+use mathlib.Core.Bool.{Bool, true, false≢true}
 use mathlib.Core.List.{List, [], _∷_}
 use Prim.Native.Nat.{suc}
 use lib.Dec.{eqb}
@@ -8,9 +8,6 @@ use lib.ListN.{length}
 use Rattle.std.proofs.shelf.Tests.{and-parts, eqb-true}
 use Rattle.std.specs.declared.option.Option.{Option}
 use Rattle.circuit.specs.declared.gate.Signal.{Signal}
-use Rattle.circuit.specs.Circuits.{Circuit}
-use Rattle.circuit.specs.Tests.{Test}
-use Rattle.diagnosis.specs.Sets.{Marks}
 use Rattle.diagnosis.specs.Explains.{agrees, value, agree}
 use Rattle.diagnosis.specs.ExplainingLaws.{Explained-tests-fit}
 

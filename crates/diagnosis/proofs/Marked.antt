@@ -2,16 +2,16 @@
 use mathlib.Core.Path.{_≡_, refl, sym, ap, subst, _∙_}
 use mathlib.Core.Bool.{Bool, true, false, cond, _||_}
 use mathlib.Core.List.{List, [], _∷_}
-use mathlib.Core.Logic.{inl, inr, ⊎-elim}
+use mathlib.Core.Logic.{⊎-elim}
 use Prim.Native.Nat.{ℕ, zero, suc, _+_, _≤_, _<_}
 use native.Mathlib.Nat.{add-zero, add-suc, suc-add, zero-add}
 use native.Mathlib.Omega.{arith}
-use lib.Dec.{eqb}
 use lib.ListN.{length}
-use Rattle.std.proofs.shelf.Tests.{eq-eqb, ne-eqb, cases-bool, cases-lt, cases-eq, cond-true, cond-false, or-left, or-from}
+use Rattle.std.proofs.shelf.Tests.{eq-eqb, ne-eqb, cases-bool, cases-lt, cases-eq, cond-true, cond-false, or-left}
 use Rattle.circuit.specs.Circuits.{Circuit}
 use Rattle.circuit.specs.Tests.{Test}
-use Rattle.diagnosis.specs.Sets.{Marks, member, Ascends, IsSet, markedFrom, marked, count, Marked-gates-set}
+use Rattle.diagnosis.specs.Sets.{Marks, member, Ascends, IsSet}
+use Rattle.diagnosis.specs.Marked.{markedFrom, marked, count, Marked-gates-set}
 use Rattle.diagnosis.specs.Explains.{ExplainsCase}
 use Rattle.diagnosis.proofs.Simulated.{brings-marks}
 use Rattle.diagnosis.proofs.Subsets.{ascends-from-lower, no-member-below}

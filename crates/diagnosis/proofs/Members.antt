@@ -1,6 +1,6 @@
 -- What stands in a list that was joined, mapped or filtered, and what a test of all or of any says of it.
 use mathlib.Core.Path.{_≡_, refl, sym, ap, subst, _∙_}
-use mathlib.Core.Bool.{Bool, true, false, _||_, false≢true}
+use mathlib.Core.Bool.{Bool, true, false, cond, false≢true}
 use mathlib.Core.List.{List, [], _∷_, _++_, map}
 use mathlib.Core.Logic.{_⊎_, inl, inr, ⊎-elim}
 use Rattle.std.specs.shelf.Lists.{kept-by}
@@ -49,7 +49,7 @@ in-kept {A} p (y ∷ xs) x h e =
     (λ r. later r (in-kept p xs x r e) (p y))
     h
   where
-    later : In x xs → In x (kept-by p xs) → (b : Bool) → In x (mathlib.Core.Bool.cond b (y ∷ kept-by p xs) (kept-by p xs))
+    later : In x xs → In x (kept-by p xs) → (b : Bool) → In x (cond b (y ∷ kept-by p xs) (kept-by p xs))
     later r k true = inr k
     later r k false = k
 

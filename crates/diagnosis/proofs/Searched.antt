@@ -9,9 +9,9 @@ use Rattle.std.proofs.shelf.Tests.{eqb-true, cases-bool, cond-true, cond-false,
 use Rattle.circuit.specs.Circuits.{Circuit}
 use Rattle.circuit.specs.Tests.{Test}
 use Rattle.diagnosis.specs.Sets.{member}
-use Rattle.diagnosis.specs.Explains.{Values, bringsOut, Explains, ExplainsSet}
+use Rattle.diagnosis.specs.Explains.{Values, bringsOut, ExplainsSet}
 use Rattle.diagnosis.specs.Order.{In}
-use Rattle.diagnosis.specs.FullList.{force, choices, explains, explainsCase}
+use Rattle.diagnosis.specs.FullList.{force, choices, explainsCase}
 use Rattle.diagnosis.specs.ExplainingLaws.{Search-decides}
 use Rattle.diagnosis.proofs.Members.{in-front, in-back, in-map, any-at, any-from}
 use Rattle.diagnosis.proofs.Simulated.{brings-forced}

@@ -1,13 +1,13 @@
 -- The subsets of a set are those that the search tries.
 use mathlib.Core.Path.{_≡_, refl, sym, ap, subst, _∙_}
-use mathlib.Core.Bool.{Bool, true, false, cond, false≢true}
+use mathlib.Core.Bool.{true, false≢true}
 use mathlib.Core.List.{List, [], _∷_, _++_, map}
 use mathlib.Core.Logic.{_⊎_, inl, inr, ⊎-elim}
 use Prim.Native.Nat.{ℕ, suc, _≤_, _<_}
 use native.Mathlib.Omega.{arith}
 use lib.Dec.{eqb}
 use lib.ListN.{length}
-use Rattle.std.proofs.shelf.Tests.{eqb-true, eq-eqb, cases-lt, cases-eq, or-cases, or-left, or-right}
+use Rattle.std.proofs.shelf.Tests.{eqb-true, eq-eqb, cases-eq, or-cases, or-left, or-right}
 use Rattle.diagnosis.specs.Sets.{member, Ascends, IsSet, Within, Proper}
 use Rattle.diagnosis.specs.Order.{In}
 use Rattle.diagnosis.specs.FullList.{subsets, properSubsets}

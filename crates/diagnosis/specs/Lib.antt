@@ -1,4 +1,5 @@
 pub mod Sets
+pub mod Marked
 pub mod Explains
 pub mod Order
 pub mod Minimal

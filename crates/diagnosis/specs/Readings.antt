@@ -3,7 +3,7 @@
 --   forcedBy             the values that a byte forces on a set; bits above the set's size force nothing
 --   Readings-bring-out   the byte of forced values brings out what they bring out
 use mathlib.Core.Path.{_≡_}
-use mathlib.Core.Bool.{Bool, true, false, cond}
+use mathlib.Core.Bool.{true, false, cond}
 use mathlib.Core.List.{List, [], _∷_}
 use Prim.Native.Nat.{ℕ, _+_, _*_, _/_, _%_}
 use lib.Dec.{eqb}

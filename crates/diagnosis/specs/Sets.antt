@@ -6,15 +6,11 @@
 --   Within     each gate of one set is in the other
 --   Proper     within, but not the whole
 --   without    a set that one gate was dropped from
---   marked     the set of the marked gates among 1 to n
---   count      how many of the gates 1 to n are marked
---   Marked-gates-set   the marked gates are a set with just those marks, of that count; and a set is what it marks
 use mathlib.Core.Path.{_≡_}
 use mathlib.Core.Bool.{Bool, true, false, cond, _||_}
 use mathlib.Core.List.{List, [], _∷_}
-use Prim.Native.Nat.{ℕ, zero, suc, _≤_}
+use Prim.Native.Nat.{ℕ, suc, _≤_}
 use lib.Dec.{eqb}
-use lib.ListN.{length}
 
 abbrev pub Marks : Type 0
 Marks = ℕ → Bool
@@ -39,21 +35,3 @@ Proper T S = Within T S × (T ≡ S → ⊥)
 abbrev pub without : ℕ → List ℕ → List ℕ
 without g [] = []
 without g (x ∷ xs) = cond (eqb g x) (without g xs) (x ∷ without g xs)
-
--- the marked ones of n numbers from a on
-abbrev pub markedFrom : Marks → ℕ → ℕ → List ℕ
-markedFrom s a zero = []
-markedFrom s a (suc n) = cond (s a) (a ∷ markedFrom s (suc a) n) (markedFrom s (suc a) n)
-
-abbrev pub marked : Marks → ℕ → List ℕ
-marked s n = markedFrom s 1 n
-
-abbrev pub count : Marks → ℕ → ℕ
-count s zero = 0
-count s (suc n) = cond (s (suc n)) (suc (count s n)) (count s n)
-
-pub record Marked-gates-set : Type 0 where
-  pub set : (s : Marks) (n : ℕ) → IsSet n (marked s n)
-  pub marks : (s : Marks) (n g : ℕ) → 1 ≤ g → g ≤ n → member (marked s n) g ≡ s g
-  pub size : (s : Marks) (n : ℕ) → length (marked s n) ≡ count s n
-  pub own : (n : ℕ) (S : List ℕ) → IsSet n S → marked (member S) n ≡ S

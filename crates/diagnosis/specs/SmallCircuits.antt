@@ -3,7 +3,7 @@
 --   Row               a case and a bound, and the sets to be found
 --   Found-as-listed   of each row of the table the full list is the one written there
 use mathlib.Core.Path.{_≡_}
-use mathlib.Core.Bool.{Bool, true, false}
+use mathlib.Core.Bool.{true, false}
 use mathlib.Core.List.{List, [], _∷_, map}
 use Prim.Native.Nat.{ℕ}
 use Rattle.std.specs.declared.option.Option.the-variants.{Some, None}

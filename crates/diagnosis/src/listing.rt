@@ -1,5 +1,5 @@
 // The laws of the order, of minimal sets and of the full list.
-ghost use Rattle.diagnosis.specs.Sets.{Marked-gates-set};
+ghost use Rattle.diagnosis.specs.Marked.{Marked-gates-set};
 ghost use Rattle.diagnosis.specs.ListLaws.{Order-strict-total, Minimal-when-none-drops, Explaining-contains-minimal, Full-list-exact, Full-list-unique, Full-list-once};
 
 pub fn marked_gates_are_a_set()
