@@ -1,7 +1,8 @@
+-- The lemmas behind the laws, from the ground up.
 pub mod Members
 pub mod Simulated
 pub mod Consistent
-pub mod Fitting
+pub mod Measured
 pub mod Searched
 pub mod ForcedByte
 pub mod Ordered

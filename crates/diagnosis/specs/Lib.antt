@@ -1,5 +1,5 @@
+-- The definitions and the laws of diagnosis, in the order to read them.
 pub mod Sets
-pub mod Marked
 pub mod Explains
 pub mod Order
 pub mod Minimal
@@ -8,4 +8,5 @@ pub mod SmallCircuits
 pub mod ExplainingLaws
 pub mod ListLaws
 pub mod Next
+pub mod Marked
 pub mod Readings

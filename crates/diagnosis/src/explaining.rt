@@ -1,13 +1,13 @@
 // The laws of explaining.
-ghost use Rattle.diagnosis.specs.ExplainingLaws.{Gate-values-consistent, Explained-tests-fit, Search-decides, Supersets-explain, Tests-need-own-values};
+ghost use Rattle.diagnosis.specs.ExplainingLaws.{Gate-values-consistent, Brings-out-measured, Search-decides, Supersets-explain, Tests-need-own-values};
 ghost use Rattle.diagnosis.specs.Readings.{Readings-bring-out};
 
 pub fn gate_values_are_consistent()
     ensures { λ _. ⌜ Gate-values-consistent ⌝ }
 {}
 
-pub fn explained_tests_fit()
-    ensures { λ _. ⌜ Explained-tests-fit ⌝ }
+pub fn brings_out_what_was_measured()
+    ensures { λ _. ⌜ Brings-out-measured ⌝ }
 {}
 
 pub fn search_decides()

@@ -5,7 +5,7 @@ mod listing;
 mod next;
 mod table;
 
-pub use explaining::explained_tests_fit;
+pub use explaining::brings_out_what_was_measured;
 pub use explaining::gate_values_are_consistent;
 pub use explaining::readings_bring_out;
 pub use explaining::search_decides;

@@ -1,3 +1,4 @@
+-- The simulated values are the only consistent ones.
 use Rattle.diagnosis.proofs.Consistent.{gate-values-consistent}
 use Rattle.diagnosis.proofs.explaining.gate_values_are_consistent.Needs as need
 

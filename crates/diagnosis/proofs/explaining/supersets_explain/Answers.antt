@@ -1,3 +1,4 @@
+-- With more gates a set still explains.
 use Rattle.diagnosis.proofs.Dropped.{supersets-explain}
 use Rattle.diagnosis.proofs.explaining.supersets_explain.Needs as need
 

@@ -1,3 +1,4 @@
+-- Two tests of a small circuit that the same two gates explain, and no one choice of values forced on them.
 use mathlib.Core.Path.{_≡_, refl}
 use mathlib.Core.Bool.{Bool, true, false, not, _&&_, _||_, Bool·beq, false≢true}
 use Rattle.std.proofs.shelf.Tests.{and-parts}

@@ -1,3 +1,4 @@
+-- The order of sets is strict and total.
 use Rattle.diagnosis.proofs.Ordered.{order-strict-total}
 use Rattle.diagnosis.proofs.listing.order_is_strict_and_total.Needs as need
 

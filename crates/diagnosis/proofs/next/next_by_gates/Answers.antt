@@ -1,3 +1,4 @@
+-- The candidate that was found gate by gate comes next.
 use Rattle.diagnosis.proofs.Nexts.{next-by-gates}
 use Rattle.diagnosis.proofs.next.next_by_gates.Needs as need
 

@@ -1,3 +1,4 @@
+-- The table of small circuits computes.
 use mathlib.Core.Path.{refl}
 use Rattle.diagnosis.proofs.table.small_circuits_are_listed.Needs as need
 
