@@ -8,14 +8,18 @@ use native.Mathlib.Omega.{arith}
 use lib.Dec.{eqb}
 use lib.ListN.{length}
 use Rattle.std.proofs.shelf.Tests.{cases-bool, ne-eqb, or-from, or-right}
-use Rattle.diagnosis.specs.Sets.{member, Ascends, IsSet, Within}
-use Rattle.diagnosis.specs.Explains.{ExplainsSet}
+use Rattle.circuit.specs.Circuits.{Circuit}
+use Rattle.circuit.specs.Tests.{Test}
+use Rattle.diagnosis.specs.Sets.{Marks, member, Ascends, IsSet, Within}
+use Rattle.diagnosis.specs.Marked.{marked, count}
+use Rattle.diagnosis.specs.Explains.{ExplainsCase, ExplainsSet}
 use Rattle.diagnosis.specs.Order.{Lower, Before, In, InOrder}
 use Rattle.diagnosis.specs.Minimal.{Minimal, IsFullList}
-use Rattle.diagnosis.specs.Next.{Begins, Candidate, Agree-before, Ends-without-candidates, First-candidate-is-next, Next-by-gates}
+use Rattle.diagnosis.specs.Next.{Begins, Candidate, CandidateFor, Agree-before, Ends-without-candidates, First-candidate-is-next, Next-by-gates}
 use Rattle.diagnosis.proofs.Members.{in-front, in-back, in-either}
 use Rattle.diagnosis.proofs.Ordered.{before-itself, order-back, order-across}
 use Rattle.diagnosis.proofs.Subsets.{member-range, no-member-below, member-first, whole-or-fewer}
+use Rattle.diagnosis.proofs.Marked.{marked-set, marked-member, marked-count, explains-same}
 use Rattle.diagnosis.proofs.Listed.{explaining-contains-minimal}
 
 -- ── of two sets the lower has the first gate that is not in both ──
@@ -114,6 +118,20 @@ module _ (n : ℕ) (Explaining : List ℕ → Type 0) (N : ℕ) (L given : List 
         let (low, high) = member-range 1 n T (t .set) g on in
         earliest g T low high off t (r .0) (λ i l u. same i u) on)
         before)
+
+-- marks that explain and do not cover a set given mark a candidate
+pub marked-candidate :
+    (c : Circuit) (ts : List Test) (N : ℕ) (given : List (List ℕ)) (s : Marks) → ((D : List ℕ) → In D given → IsSet (length (c .gates)) D)
+    → count s (length (c .gates)) ≤ N → ExplainsCase c s ts → ((D : List ℕ) → In D given → ((g : ℕ) → member D g ≡ true → s g ≡ true) → ⊥)
+    → CandidateFor c ts N given (marked s (length (c .gates)))
+marked-candidate c ts N given s sets few explains fresh =
+    let n = length (c .gates) in
+    record {
+      set = marked-set s n;
+      few = omega (arith, marked-count s n);
+      explains = explains-same c s (member (marked s n)) ts (λ g low high. sym (marked-member s n g low high)) explains;
+      fresh = λ D d w. fresh D d (λ g m. let (low, high) = member-range 1 n D (sets D d) g m in sym (marked-member s n g low high) ∙ w g m);
+    }
 
 pub ends-without-candidates : Ends-without-candidates
 ends-without-candidates c ts N L given full begins = (

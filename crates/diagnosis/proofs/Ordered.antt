@@ -12,40 +12,40 @@ use Rattle.diagnosis.specs.Order.{Lower, Before, In, InOrder}
 use Rattle.diagnosis.specs.ListLaws.{Order-strict-total}
 use Rattle.diagnosis.proofs.Members.{in-back, in-either, from-map, from-kept}
 
-lower-one-way : (S T : List ℕ) → Lower S T → Lower T S → ⊥
-lower-one-way [] T h k = h
-lower-one-way (x ∷ S) [] h k = h
-lower-one-way (x ∷ S) (y ∷ T) h k =
+lower-asymmetric : (S T : List ℕ) → Lower S T → Lower T S → ⊥
+lower-asymmetric [] T h k = h
+lower-asymmetric (x ∷ S) [] h k = h
+lower-asymmetric (x ∷ S) (y ∷ T) h k =
     ⊎-elim
     (λ lt. ⊎-elim (λ gt. omega arith) (λ r. let e = r .0 in omega arith) k)
-    (λ r. ⊎-elim (λ gt. let e = r .0 in omega arith) (λ q. lower-one-way S T (r .1) (q .1)) k)
+    (λ r. ⊎-elim (λ gt. let e = r .0 in omega arith) (λ q. lower-asymmetric S T (r .1) (q .1)) k)
     h
 
-pub before-one-way : (S T : List ℕ) → Before S T → Before T S → ⊥
-before-one-way S T h k =
+pub before-asymmetric : (S T : List ℕ) → Before S T → Before T S → ⊥
+before-asymmetric S T h k =
     ⊎-elim
     (λ lt. ⊎-elim (λ gt. omega arith) (λ r. let e = r .0 in omega arith) k)
-    (λ r. ⊎-elim (λ gt. let e = r .0 in omega arith) (λ q. lower-one-way S T (r .1) (q .1)) k)
+    (λ r. ⊎-elim (λ gt. let e = r .0 in omega arith) (λ q. lower-asymmetric S T (r .1) (q .1)) k)
     h
 
 pub before-itself : (S : List ℕ) → Before S S → ⊥
-before-itself S h = before-one-way S S h h
+before-itself S h = before-asymmetric S S h h
 
-lower-on : (R S T : List ℕ) → Lower R S → Lower S T → Lower R T
-lower-on [] S T h k = h
-lower-on (x ∷ R) [] T h k = absurd h
-lower-on (x ∷ R) (y ∷ S) [] h k = absurd k
-lower-on (x ∷ R) (y ∷ S) (z ∷ T) h k =
+lower-transitive : (R S T : List ℕ) → Lower R S → Lower S T → Lower R T
+lower-transitive [] S T h k = h
+lower-transitive (x ∷ R) [] T h k = absurd h
+lower-transitive (x ∷ R) (y ∷ S) [] h k = absurd k
+lower-transitive (x ∷ R) (y ∷ S) (z ∷ T) h k =
     ⊎-elim
     (λ lt. inl (⊎-elim (λ gt. omega arith) (λ q. let e = q .0 in omega arith) k))
-    (λ r. ⊎-elim (λ gt. inl (let e = r .0 in omega arith)) (λ q. inr (r .0 ∙ q .0, lower-on R S T (r .1) (q .1))) k)
+    (λ r. ⊎-elim (λ gt. inl (let e = r .0 in omega arith)) (λ q. inr (r .0 ∙ q .0, lower-transitive R S T (r .1) (q .1))) k)
     h
 
-before-on : (R S T : List ℕ) → Before R S → Before S T → Before R T
-before-on R S T h k =
+before-transitive : (R S T : List ℕ) → Before R S → Before S T → Before R T
+before-transitive R S T h k =
     ⊎-elim
     (λ lt. inl (⊎-elim (λ gt. omega arith) (λ q. let e = q .0 in omega arith) k))
-    (λ r. ⊎-elim (λ gt. inl (let e = r .0 in omega arith)) (λ q. inr (r .0 ∙ q .0, lower-on R S T (r .1) (q .1))) k)
+    (λ r. ⊎-elim (λ gt. inl (let e = r .0 in omega arith)) (λ q. inr (r .0 ∙ q .0, lower-transitive R S T (r .1) (q .1))) k)
     h
 
 lower-total : (S T : List ℕ) → length S ≡ length T → (S ≡ T) ⊎ (Lower S T ⊎ Lower T S)
@@ -67,7 +67,7 @@ before-total S T =
     (cases-order (length S) (length T))
 
 pub order-strict-total : Order-strict-total
-order-strict-total = record { one-way = before-one-way; on = before-on; total = before-total }
+order-strict-total = record { asymmetric = before-asymmetric; transitive = before-transitive; total = before-total }
 
 -- one gate more in front of both
 before-cons : (x : ℕ) (S T : List ℕ) → Before S T → Before (x ∷ S) (x ∷ T)
@@ -101,7 +101,7 @@ order-kept p (S ∷ L) h = kept (p S) (order-kept p L (h .1))
 
 -- ── two lists in order in which the same sets stand are one list ──
 heads-equal : (S T : List ℕ) (K L : List (List ℕ)) → InOrder (S ∷ K) → InOrder (T ∷ L) → In S (T ∷ L) → In T (S ∷ K) → S ≡ T
-heads-equal S T K L k l s t = ⊎-elim (λ e. e) (λ i. ⊎-elim (λ e. sym e) (λ j. absurd (before-one-way S T (k .0 T j) (l .0 S i))) t) s
+heads-equal S T K L k l s t = ⊎-elim (λ e. e) (λ i. ⊎-elim (λ e. sym e) (λ j. absurd (before-asymmetric S T (k .0 T j) (l .0 S i))) t) s
 
 tails-agree : (S T : List ℕ) (K L : List (List ℕ)) → InOrder (S ∷ K) → S ≡ T → ((R : List ℕ) → In R (S ∷ K) → In R (T ∷ L)) → (R : List ℕ) → In R K → In R L
 tails-agree S T K L k e f R i = ⊎-elim (λ q. absurd (before-itself R (subst (λ (X : List ℕ). Before X R) (e ∙ sym q) (k .0 R i)))) (λ j. j) (f R (inr i))

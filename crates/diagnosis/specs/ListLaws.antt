@@ -1,5 +1,5 @@
 -- The laws of the order, of minimal sets and of the full list.
---   Order-strict-total           of two different lists exactly one stands before the other, and what stands before it comes before the other too
+--   Order-strict-total           the order is asymmetric, transitive and total: of two different lists exactly one stands before the other
 --   Minimal-when-none-drops      a set is minimal exactly if it explains and no longer does when any one gate is dropped
 --   Explaining-contains-minimal  each set that explains contains a minimal set
 --   Full-list-exact              the list that computes is the full list
@@ -20,8 +20,8 @@ use Rattle.diagnosis.specs.Minimal.{MinimalSet, FullListFor}
 use Rattle.diagnosis.specs.FullList.{fullList}
 
 pub record Order-strict-total : Type 0 where
-  pub one-way : (S T : List ℕ) → Before S T → Before T S → ⊥
-  pub on : (R S T : List ℕ) → Before R S → Before S T → Before R T
+  pub asymmetric : (S T : List ℕ) → Before S T → Before T S → ⊥
+  pub transitive : (R S T : List ℕ) → Before R S → Before S T → Before R T
   pub total : (S T : List ℕ) → (S ≡ T) ⊎ (Before S T ⊎ Before T S)
 
 abbrev pub Minimal-when-none-drops : Type 0
