@@ -12,3 +12,4 @@ pub mod Chosen
 pub mod Dropped
 pub mod Listed
 pub mod Nexts
+pub mod TotalOrder

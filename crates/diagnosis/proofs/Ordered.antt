@@ -1,4 +1,4 @@
--- The order of sets is strict and total, so that a list in order is fixed by what stands in it.
+-- The order of sets is strict, so that a list in order is fixed by what stands in it.
 use mathlib.Core.Path.{_≡_, refl, sym, ap, subst, _∙_}
 use mathlib.Core.Bool.{Bool, true, false, cond}
 use mathlib.Core.List.{List, [], _∷_, _++_, map}
@@ -7,9 +7,7 @@ use Prim.Native.Nat.{ℕ, suc}
 use native.Mathlib.Omega.{arith}
 use lib.ListN.{length}
 use Rattle.std.specs.shelf.Lists.{kept-by}
-use Rattle.std.proofs.shelf.Tests.{cases-order}
 use Rattle.diagnosis.specs.Order.{Lower, Before, In, InOrder}
-use Rattle.diagnosis.specs.ListLaws.{Order-strict-total}
 use Rattle.diagnosis.proofs.Members.{in-back, in-either, from-map, from-kept}
 
 lower-asymmetric : (S T : List ℕ) → Lower S T → Lower T S → ⊥
@@ -30,44 +28,6 @@ before-asymmetric S T h k =
 
 pub before-itself : (S : List ℕ) → Before S S → ⊥
 before-itself S h = before-asymmetric S S h h
-
-lower-transitive : (R S T : List ℕ) → Lower R S → Lower S T → Lower R T
-lower-transitive [] S T h k = h
-lower-transitive (x ∷ R) [] T h k = absurd h
-lower-transitive (x ∷ R) (y ∷ S) [] h k = absurd k
-lower-transitive (x ∷ R) (y ∷ S) (z ∷ T) h k =
-    ⊎-elim
-    (λ lt. inl (⊎-elim (λ gt. omega arith) (λ q. let e = q .0 in omega arith) k))
-    (λ r. ⊎-elim (λ gt. inl (let e = r .0 in omega arith)) (λ q. inr (r .0 ∙ q .0, lower-transitive R S T (r .1) (q .1))) k)
-    h
-
-before-transitive : (R S T : List ℕ) → Before R S → Before S T → Before R T
-before-transitive R S T h k =
-    ⊎-elim
-    (λ lt. inl (⊎-elim (λ gt. omega arith) (λ q. let e = q .0 in omega arith) k))
-    (λ r. ⊎-elim (λ gt. inl (let e = r .0 in omega arith)) (λ q. inr (r .0 ∙ q .0, lower-transitive R S T (r .1) (q .1))) k)
-    h
-
-lower-total : (S T : List ℕ) → length S ≡ length T → (S ≡ T) ⊎ (Lower S T ⊎ Lower T S)
-lower-total [] [] e = inl refl
-lower-total [] (y ∷ T) e = absurd (omega arith)
-lower-total (x ∷ S) [] e = absurd (omega arith)
-lower-total (x ∷ S) (y ∷ T) e =
-    ⊎-elim
-    (λ same.
-    ⊎-elim (λ r. inl (λ i. same i ∷ r i)) (λ r. inr (⊎-elim (λ l. inl (inr (same, l))) (λ l. inr (inr (sym same, l))) r)) (lower-total S T (omega arith)))
-    (λ other. inr (⊎-elim (λ lt. inl (inl lt)) (λ gt. inr (inl gt)) other))
-    (cases-order x y)
-
-before-total : (S T : List ℕ) → (S ≡ T) ⊎ (Before S T ⊎ Before T S)
-before-total S T =
-    ⊎-elim
-    (λ same. ⊎-elim (λ e. inl e) (λ r. inr (⊎-elim (λ l. inl (inr (same, l))) (λ l. inr (inr (sym same, l))) r)) (lower-total S T same))
-    (λ other. inr (⊎-elim (λ lt. inl (inl lt)) (λ gt. inr (inl gt)) other))
-    (cases-order (length S) (length T))
-
-pub order-strict-total : Order-strict-total
-order-strict-total = record { asymmetric = before-asymmetric; transitive = before-transitive; total = before-total }
 
 -- one gate more in front of both
 before-cons : (x : ℕ) (S T : List ℕ) → Before S T → Before (x ∷ S) (x ∷ T)
