@@ -1,0 +1,12 @@
+-- The definitions and the laws of diagnosis, in the order to read them.
+pub mod Sets
+pub mod Explains
+pub mod Order
+pub mod Minimal
+pub mod FullList
+pub mod SmallCircuits
+pub mod ExplainingLaws
+pub mod ListLaws
+pub mod Next
+pub mod Marked
+pub mod Readings
