@@ -1,3 +1,4 @@
 pub mod Few
 pub mod Tested
 pub mod Wiring
+pub mod KindsAsNamed

@@ -4,6 +4,7 @@ mod circuit;
 mod collect;
 mod gate;
 mod kind;
+mod laws;
 mod operands;
 
 pub use circuit::Circuit;
@@ -14,4 +15,5 @@ pub use gate::SignalPartialEq;
 pub use kind::Kind;
 pub use kind::KindDebug;
 pub use kind::KindPartialEq;
+pub use laws::kinds_compute_as_named;
 pub use operands::Operands;

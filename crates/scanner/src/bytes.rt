@@ -53,9 +53,9 @@ pub fn line_len(s: &[u8]) -> usize
     ensures value { λ r. ⌜ r ≡ lineLen (now (s .entry)) ⌝ }
     ensures bound { λ r. ⌜ r ≤ length (now (s .entry)) ⌝ }
 {
-    let mut n = 0;
-    while n < s.len() && s[n] != b'\n' {
-        n += 1;
+    let mut end = 0;
+    while end < s.len() && s[end] != b'\n' {
+        end += 1;
     }
-    n
+    end
 }
