@@ -19,7 +19,7 @@ use Rattle.circuit.specs.Tests.{Test, FitsTest}
 use Rattle.diagnosis.specs.Sets.{Marks, member, Within}
 use Rattle.diagnosis.specs.Explains.{Values, numbered, value, gateValue, values, bringsOut, Explains, ExplainsSet}
 use Rattle.diagnosis.specs.FullList.{explains}
-use Rattle.diagnosis.specs.SmallCircuits.{P, y-low-z-high, both-low}
+use Rattle.diagnosis.specs.Witness.{P, y-low-z-high, both-low}
 
 pub record Consistent (c : Circuit) (s : Marks) (w : Values) (inputs vs : List Bool) : Type 0 where
   pub one-each : length vs ≡ length (c .gates)

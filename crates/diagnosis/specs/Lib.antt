@@ -4,7 +4,7 @@ pub mod Explains
 pub mod Order
 pub mod Minimal
 pub mod FullList
-pub mod SmallCircuits
+pub mod Witness
 pub mod ExplainingLaws
 pub mod ListLaws
 pub mod Next

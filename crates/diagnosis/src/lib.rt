@@ -3,7 +3,6 @@
 mod explaining;
 mod listing;
 mod next;
-mod table;
 
 pub use explaining::brings_out_what_was_measured;
 pub use explaining::gate_values_are_consistent;
@@ -21,4 +20,3 @@ pub use listing::order_is_strict_and_total;
 pub use next::ends_without_candidates;
 pub use next::first_candidate_is_next;
 pub use next::next_by_gates;
-pub use table::small_circuits_are_listed;

@@ -40,7 +40,12 @@ impl Tables {
         Ok(())
     }
 
-    pub(crate) fn admit_gate(&mut self, name: Name, kind: Kind, operands: &Operands<Name>) -> Result<(), LineFault>
+    pub(crate) fn admit_gate(
+        &mut self,
+        name: Name,
+        kind: Kind,
+        operands: &Operands<Name>,
+    ) -> Result<(), LineFault>
         ensures { λ r. ⌜ told r (draftOf (now (self .exit))) ≡ admitted (draftOf (now (self .entry))) 0 (gate (nameOf name) kind (namesOf (now (operands .entry)))) ⌝ }
     {
         if !kind.takes(operands.as_slice().len()) {

@@ -33,8 +33,10 @@ impl LineFault {
 
     fn sentence(self) -> &'static str {
         match self {
-            LineFault::Byte(_) => "this byte may not stand in a line: letters, digits, _ and space may, and ( ) , =",
-            LineFault::Form => "a line is INPUT(name), OUTPUT(name) or name = KIND(name, ...), with names of at most 16 bytes",
+            LineFault::Byte(_) =>
+                "this byte may not stand in a line: letters, digits, _ and space may, and ( ) , =",
+            LineFault::Form =>
+                "a line is INPUT(name), OUTPUT(name) or name = KIND(name, ...), with names of at most 16 bytes",
             LineFault::OperandCount => "this kind of gate does not take so many operands",
             LineFault::Redefined => "a signal of this name is defined already",
             LineFault::Undefined => "an operand is not defined on an earlier line",
@@ -82,7 +84,8 @@ impl ReadFault {
             ReadFault::Long => "a netlist has at most 60000 bytes",
             ReadFault::Line(_, fault) => fault.sentence(),
             ReadFault::Lacking => "a netlist has at least one input, one output and one gate",
-            ReadFault::Output(_) => "an OUTPUT names a signal of the netlist, and each at most once",
+            ReadFault::Output(_) =>
+                "an OUTPUT names a signal of the netlist, and each at most once",
         }
     }
 }

@@ -44,13 +44,13 @@ pub distinct-push : (ns : List Name) (m : Name) → Distinct ns → ((i : ℕ) �
 distinct-push ns m d f i j hi hj e =
     ⊎-elim
     (λ li. ⊎-elim
-      (λ lj. d i j li lj (sym (λ k. sameName (old-place ns m i li k) (old-place ns m j lj k)) ∙ e))
-      (λ gj. absurd (both-ways (sameName (getD ns i []) m) (f i li) (sym (λ k. sameName (old-place ns m i li k) (new-place ns m j hj gj .0 k)) ∙ e)))
-      (cases-lt j (length ns)))
+    (λ lj. d i j li lj (sym (λ k. sameName (old-place ns m i li k) (old-place ns m j lj k)) ∙ e))
+    (λ gj. absurd (both-ways (sameName (getD ns i []) m) (f i li) (sym (λ k. sameName (old-place ns m i li k) (new-place ns m j hj gj .0 k)) ∙ e)))
+    (cases-lt j (length ns)))
     (λ gi. ⊎-elim
-      (λ lj. absurd (both-ways (sameName m (getD ns j [])) (same-name-back (getD ns j []) m (f j lj)) (sym (λ k. sameName (new-place ns m i hi gi .0 k) (old-place ns m j lj k)) ∙ e)))
-      (λ gj. new-place ns m i hi gi .1 ∙ sym (new-place ns m j hj gj .1))
-      (cases-lt j (length ns)))
+    (λ lj. absurd (both-ways (sameName m (getD ns j [])) (same-name-back (getD ns j []) m (f j lj)) (sym (λ k. sameName (new-place ns m i hi gi .0 k) (old-place ns m j lj k)) ∙ e)))
+    (λ gj. new-place ns m i hi gi .1 ∙ sym (new-place ns m j hj gj .1))
+    (cases-lt j (length ns)))
     (cases-lt i (length ns))
 
 pub apart-push : (ns ms : List Name) (m : Name) → Apart ns ms → ((i : ℕ) → i < length ns → sameName (getD ns i []) m ≡ false) → Apart ns (ms ++ m ∷ [])

@@ -41,13 +41,13 @@ different-push : (ss : List Signal) (s : Signal) → Different ss → any (sameS
 different-push ss s f none i j d hi hj e =
     ⊎-elim
     (λ li. ⊎-elim
-      (λ lj. f i j d li lj (sym (old i li) ∙ e ∙ old j lj))
-      (λ gj. absurd (unlike i li (sym (old i li) ∙ e ∙ last j hj gj)))
-      (cases-lt j (length ss)))
+    (λ lj. f i j d li lj (sym (old i li) ∙ e ∙ old j lj))
+    (λ gj. absurd (unlike i li (sym (old i li) ∙ e ∙ last j hj gj)))
+    (cases-lt j (length ss)))
     (λ gi. ⊎-elim
-      (λ lj. absurd (unlike j lj (sym (old j lj) ∙ sym e ∙ last i hi gi)))
-      (λ gj. omega (arith, length-push ss s))
-      (cases-lt j (length ss)))
+    (λ lj. absurd (unlike j lj (sym (old j lj) ∙ sym e ∙ last i hi gi)))
+    (λ gj. omega (arith, length-push ss s))
+    (cases-lt j (length ss)))
     (cases-lt i (length ss))
   where
     old : (k : ℕ) → k < length ss → getD (ss ++ s ∷ []) k d ≡ getD ss k d

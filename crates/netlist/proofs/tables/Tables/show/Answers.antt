@@ -38,6 +38,6 @@ returns c =
     let found : Some s ≡ signal n (nameOf (c .args .output .name)) = c .in-Some .ensures tt ∙ ap (signal n) (c .as-bytes .ensures) in
     record {
       value = ap (λ (x : Circuit). Ok (record { circuit = x; inputNames = n .inputNames; gateNames = n .gateNames })) (c .if-not-add-output .ensures tt .after)
-      ∙ sym (ap (shown n (c .args .output .line)) (sym found) ∙ shown-new n (c .args .output .line) s (sym (c .if-is-shown .ensures tt)));
+          ∙ sym (ap (shown n (c .args .output .line)) (sym found) ∙ shown-new n (c .args .output .line) s (sym (c .if-is-shown .ensures tt)));
       lines = refl;
     }

@@ -1,0 +1,190 @@
+#!/usr/bin/env python3
+"""An independent reading of netlist texts, written from docs/FORMATS.md and docs/REFUSALS.md alone.
+
+    netlist_reference.py FILE                   prints what `inspect` prints for that text, without the sentence
+    netlist_reference.py --compare PROGRAM [N]  makes N random texts, good and damaged, and compares with PROGRAM (target/bin/inspect)
+"""
+import os
+import random
+import subprocess
+import sys
+import tempfile
+
+NAME = set(b"abcdefghijklmnopqrstuvwxyzABCDEFGHIJKLMNOPQRSTUVWXYZ0123456789_")
+KINDS = {b"AND": (2, 8), b"OR": (2, 8), b"NAND": (2, 8), b"NOR": (2, 8), b"XOR": (2, 2), b"XNOR": (2, 2), b"NOT": (1, 1)}
+
+
+class Refused(Exception):
+    pass
+
+
+def tokens(line):
+    out, i = [], 0
+    while i < len(line):
+        b = line[i]
+        if b == 32:
+            i += 1
+        elif b in NAME:
+            j = i
+            while j < len(line) and line[j] in NAME:
+                j += 1
+            out.append(line[i:j])
+            i = j
+        else:
+            out.append(line[i:i + 1])
+            i += 1
+    return out
+
+
+def is_word(t):
+    return t[0] in NAME
+
+
+def statement(ts):
+    """('INPUT'|'OUTPUT', name) or ('GATE', name, kind, names); None if the line has none of the forms."""
+    def names(rest):
+        found = []
+        while True:
+            if len(rest) < 2 or not is_word(rest[0]) or len(rest[0]) > 16:
+                return None
+            found.append(rest[0])
+            if rest[1] == b",":
+                rest = rest[2:]
+            elif rest[1] == b")" and len(rest) == 2:
+                return found
+            else:
+                return None
+    if len(ts) < 2 or not is_word(ts[0]):
+        return None
+    if ts[1] == b"(":
+        found = names(ts[2:])
+        if found is None or len(found) != 1 or ts[0] not in (b"INPUT", b"OUTPUT"):
+            return None
+        return (ts[0].decode(), found[0])
+    if ts[1] == b"=":
+        if len(ts) < 4 or ts[2] not in KINDS or ts[3] != b"(" or len(ts[0]) > 16:
+            return None
+        found = names(ts[4:])
+        if found is None:
+            return None
+        return ("GATE", ts[0], ts[2], found)
+    return None
+
+
+def read(text):
+    if len(text) > 60000:
+        raise Refused(2, 0, 0)
+    inputs, gates, outputs, defined = [], [], [], set()
+    lines = text.split(b"\n")
+    if lines and lines[-1] == b"":
+        lines.pop()
+    for number, line in enumerate(lines, 1):
+        if line == b"" or line[:1] == b"#":
+            continue
+        for column, b in enumerate(line, 1):
+            if b not in NAME and b not in b" (),=":
+                raise Refused(3, number, column)
+        s = statement(tokens(line))
+        if s is None:
+            raise Refused(4, number, 0)
+        if s[0] == "GATE":
+            low, high = KINDS[s[2]]
+            if not low <= len(s[3]) <= high:
+                raise Refused(5, number, 0)
+        if s[0] != "OUTPUT" and s[1] in defined:
+            raise Refused(6, number, 0)
+        if s[0] == "GATE" and any(n not in defined for n in s[3]):
+            raise Refused(7, number, 0)
+        table, limit = {"INPUT": (inputs, 64), "OUTPUT": (outputs, 64), "GATE": (gates, 256)}[s[0]]
+        if len(table) >= limit:
+            raise Refused(8, number, 0)
+        table.append((number,) + s[1:])
+        if s[0] != "OUTPUT":
+            defined.add(s[1])
+    if not inputs or not outputs or not gates:
+        raise Refused(9, 0, 0)
+    seen = set()
+    for number, name in outputs:
+        if name not in defined or name in seen:
+            raise Refused(10, number, 0)
+        seen.add(name)
+    return inputs, gates, outputs
+
+
+def answer(text):
+    try:
+        inputs, gates, outputs = read(text)
+    except Refused as r:
+        return ["! %d %d %d" % r.args]
+    lines = ["inputs %d" % len(inputs), "outputs %d" % len(outputs), "gates %d" % len(gates)]
+    for kind in (b"AND", b"OR", b"NAND", b"NOR", b"XOR", b"XNOR", b"NOT"):
+        lines.append("%s %d" % (kind.decode(), sum(g[2] == kind for g in gates)))
+    return lines
+
+
+def random_text(r):
+    names = [b"a", b"b", b"c", b"d", b"G10gat", b"x_1", b"INPUT", b"AND", b"n" * 16, b"m" * 17, b"_", b"9"]
+    def spaces():
+        return b" " * r.choice([0, 0, 0, 1, 2])
+    lines = []
+    for _ in range(r.randrange(0, 14)):
+        kind = r.random()
+        if kind < 0.3:
+            line = b"INPUT" + spaces() + b"(" + spaces() + r.choice(names) + spaces() + b")" + spaces()
+        elif kind < 0.5:
+            line = b"OUTPUT" + spaces() + b"(" + spaces() + r.choice(names) + spaces() + b")"
+        elif kind < 0.9:
+            k = r.choice([b"AND", b"OR", b"NAND", b"NOR", b"XOR", b"XNOR", b"NOT", b"and", b"BUF"])
+            n = r.choice([1, 2, 2, 2, 3, 8, 9])
+            ops = (spaces() + b"," + spaces()).join(r.choice(names) for _ in range(n))
+            line = spaces() + r.choice(names) + spaces() + b"=" + spaces() + k + spaces() + b"(" + ops + b")"
+        else:
+            line = r.choice([b"", b"# \x00\xff any", b" ", b" # no", b"INPUT()", b"INPUT(a)x", b"a b = NOT(c)", b"\ta", b"INPUT(a,b)", b"a = AND(b,)", b"a == NOT(b)"])
+        if r.random() < 0.08 and line:
+            i = r.randrange(len(line))
+            line = line[:i] + bytes([r.randrange(256)]) + line[i + r.choice([0, 1]):]
+        lines.append(line)
+    text = b"\n".join(lines)
+    return text + (b"\n" if r.random() < 0.7 else b"")
+
+
+def large_text(r):
+    """A netlist near the limits, sometimes beyond one of them."""
+    i, g, o = r.choice([63, 64, 65]), r.choice([255, 256, 257]), r.choice([1, 63, 64, 65])
+    lines = [b"INPUT(i%d)" % k for k in range(i)]
+    for k in range(g):
+        lines.append(b"g%d = NAND(i%d, %s)" % (k, k % i, b"g%d" % (k - 1) if k else b"i0"))
+    lines += [b"OUTPUT(g%d)" % k for k in range(o)]
+    text = b"\n".join(lines) + b"\n"
+    if r.random() < 0.5:
+        pad = r.choice([60000, 60001]) - len(text)
+        text += b"#" * pad
+    return text
+
+
+def compare(program, count):
+    r = random.Random(1)
+    wrong = 0
+    taken = 0
+    with tempfile.TemporaryDirectory() as folder:
+        path = os.path.join(folder, "case.net")
+        for k in range(count):
+            text = large_text(r) if k % 50 == 0 else random_text(r)
+            with open(path, "wb") as f:
+                f.write(text)
+            out = subprocess.run([os.path.abspath(program)], cwd=folder, stdout=subprocess.PIPE).stdout.decode().splitlines()
+            want = answer(text)
+            got = out[:1] if out and out[0].startswith("!") else out
+            taken += not want[0].startswith("!")
+            if got != want:
+                wrong += 1
+                print("differs:", text, "wanted", want, "got", out)
+    print("%d texts, %d of them taken, %d differ" % (count, taken, wrong))
+    return wrong
+
+
+if __name__ == "__main__":
+    if len(sys.argv) >= 3 and sys.argv[1] == "--compare":
+        sys.exit(1 if compare(sys.argv[2], int(sys.argv[3]) if len(sys.argv) > 3 else 2000) else 0)
+    with open(sys.argv[1], "rb") as f:
+        print("\n".join(answer(f.read())))
