@@ -148,6 +148,34 @@ def random_text(r):
     return text + (b"\n" if r.random() < 0.7 else b"")
 
 
+def valid_text(r):
+    """A netlist that is taken, with spaces, comments and the lines in any order that is allowed; sometimes one byte of it is damaged."""
+    pool = [b"n%d" % k for k in range(40)] + [b"AND", b"INPUT", b"_", b"0", b"x" * 16]
+    r.shuffle(pool)
+    def spaces():
+        return b" " * r.choice([0, 0, 0, 1, 3])
+    defined, lines = [], []
+    for k in range(r.randrange(2, 20)):
+        name = pool.pop()
+        if not defined or r.random() < 0.3:
+            lines.append(spaces() + b"INPUT" + spaces() + b"(" + spaces() + name + spaces() + b")" + spaces())
+        else:
+            kind = r.choice(list(KINDS))
+            low, high = KINDS[kind]
+            ops = (spaces() + b"," + spaces()).join(r.choice(defined) for _ in range(r.randint(low, high)))
+            lines.append(spaces() + name + spaces() + b"=" + spaces() + kind + spaces() + b"(" + spaces() + ops + spaces() + b")" + spaces())
+        defined.append(name)
+    for name in r.sample(defined, r.randint(1, len(defined))):
+        lines.insert(r.randint(0, len(lines)), b"OUTPUT(" + spaces() + name + b")")
+    for _ in range(r.randrange(3)):
+        lines.insert(r.randint(0, len(lines)), r.choice([b"", b"#", b"# \xff\x00\t", b"#INPUT(a)"]))
+    text = b"\n".join(lines) + (b"\n" if r.random() < 0.7 else b"")
+    if r.random() < 0.3:
+        i = r.randrange(len(text))
+        text = text[:i] + r.choice([b"", bytes([r.randrange(256)]), bytes([r.choice(b"(),= \n#")])]) + text[i + 1:]
+    return text
+
+
 def large_text(r):
     """A netlist near the limits, sometimes beyond one of them."""
     i, g, o = r.choice([63, 64, 65]), r.choice([255, 256, 257]), r.choice([1, 63, 64, 65])
@@ -169,7 +197,7 @@ def compare(program, count):
     with tempfile.TemporaryDirectory() as folder:
         path = os.path.join(folder, "case.net")
         for k in range(count):
-            text = large_text(r) if k % 50 == 0 else random_text(r)
+            text = large_text(r) if k % 50 == 0 else r.choice([random_text, valid_text])(r)
             with open(path, "wb") as f:
                 f.write(text)
             out = subprocess.run([os.path.abspath(program)], cwd=folder, stdout=subprocess.PIPE).stdout.decode().splitlines()
