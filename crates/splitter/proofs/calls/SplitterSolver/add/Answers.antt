@@ -1,0 +1,51 @@
+-- The threes below say of the variables in use here what the clause says.
+use mathlib.Core.Bool.{true}
+use mathlib.Core.Path.{_≡_, refl, ap, sym, _∙_}
+use Prim.Native.Nat.{_+_, _-_, _≤_}
+use native.Mathlib.Omega.{arith}
+use lib.ListN.{length}
+use Rattle.solver.specs.Rows.{all-named, price}
+use Rattle.solver.proofs.Rows.{all-named-up}
+use Rattle.solver.proofs.Refusals.{add-accepted}
+use Rattle.splitter.specs.Sizes.{sizes-over}
+use Rattle.splitter.specs.Chains.{Split}
+use Rattle.splitter.specs.Stands.{over}
+use Rattle.splitter.proofs.Splitting.{fresh-paid, split-only, split-each, split-sound}
+use Rattle.splitter.proofs.calls.SplitterSolver.add.Needs as need
+
+pub add-in-threes-requires : need.add-in-threes-requires
+add-in-threes-requires g c κs =
+    let w = c .args .self .now in
+    let xs = c .args .clause .now in
+    let s = c .pre .1 in
+    let known = sym (c .if-not-all-named .ensures tt) in
+    let left = c .if-price-self .left in
+    let cost = c .price-price .ensures in
+    record {
+      sound = c .pre .0;
+      named = all-named-up (w .vars) (w .vars + w .fresh) (omega arith) xs known;
+      fresh = omega (arith, s .in-use, s .enough, left, cost, fresh-paid (length xs));
+      room = omega (arith, s .roomy, left, cost) }
+
+pub returns : need.returns
+returns g c =
+    let w = c .args .self .now in
+    let xs = c .args .clause .now in
+    let b = g .S·Solver .meaning (w .below) in
+    let n = g .S·Solver .meaning (c .add-in-threes .last .below) in
+    let s = c .pre .1 in
+    let known : all-named (w .vars) xs ≡ true = sym (c .if-not-all-named .ensures tt) in
+    let split : Split b xs (w .vars + w .fresh) n = c .add-in-threes .ensures .split in
+    let cost = c .price-price .ensures in
+    let left = c .if-price-self .left in
+    let fits : price (length xs) ≤ w .room = omega (arith, left, cost) in
+    record {
+      refused = add-accepted (over b (w .vars) (w .room)) xs (c .if-clause-gt16 .left) known fits;
+      cases = record {
+        sizes = ap sizes-over (split .sizes);
+        vars = refl;
+        only = split-only b (w .vars) (w .fresh) (w .room) s xs known n split (w .room - c .price-price .result);
+        each = split-each b (w .vars) (w .fresh) (w .room) s xs known n split (w .room - c .price-price .result);
+        room = omega (arith, left, cost);
+        shown = split .shown };
+      sound = (c .add-in-threes .ensures .sound, split-sound b (w .vars) (w .fresh) (w .room) s xs known n split (c .saturating-sub .result) (w .room - c .price-price .result) (c .saturating-sub .ensures) (omega (arith, left, cost))) }

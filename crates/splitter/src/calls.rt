@@ -1,0 +1,96 @@
+// The calls of a splitter.
+ghost use mathlib.Core.Path.{_≡_};
+ghost use Rattle.solver.specs.Meaning.{New};
+ghost use Rattle.splitter.specs.Sizes.{sizes-over};
+ghost use Rattle.splitter.specs.Stands.{over, bounded, Sound};
+use super::Splitter;
+use super::threes::add_in_threes;
+use solver::Refusal;
+use solver::Solver;
+use solver::all_named;
+use solver::price;
+
+// The full room over a solver.
+fn full_over<S: Solver>(below: &S) -> usize
+    ensures { λ r. ⌜ r ≡ sizes-over (S·Solver .meaning (now (below .entry)) .sizes) .full ⌝ }
+{
+    below.full_room().min(below.capacity() / 2)
+}
+
+impl<S: Solver> Splitter<S> {
+    // Lays a splitter over a solver, which it begins.
+    pub fn over(mut below: S) -> Splitter<S>
+        requires { ⌜ S·Solver .sound below ⌝ }
+        ensures fresh { λ r. ⌜ New (over (S·Solver .meaning (r .below)) (r .vars) (r .room)) ⌝ }
+        ensures sizes { λ r. ⌜ over (S·Solver .meaning (r .below)) (r .vars) (r .room) .sizes ≡ sizes-over (S·Solver .meaning below .sizes) ⌝ }
+        ensures sound { λ r. ⌜ S·Solver .sound (r .below) × Sound (S·Solver .meaning (r .below)) (r .vars) (r .fresh) (r .room) ⌝ }
+    {
+        let full = full_over(&below);
+        let _ = below.begin(full);
+        Splitter { below, vars: 0, fresh: 0, room: full }
+    }
+}
+
+pub impl<S: Solver> Solver for Splitter<S> as SplitterSolver {
+    ghost meaning = { λ s. over (S·Solver .meaning (s .below)) (s .vars) (s .room) };
+
+    ghost sound = { λ s. S·Solver .sound (s .below) × Sound (S·Solver .meaning (s .below)) (s .vars) (s .fresh) (s .room) };
+
+    ghost bounded = { λ s h. bounded (S·Solver .meaning (s .below)) (s .vars) (s .fresh) (s .room) (S·Solver .bounded (s .below) (h .0)) (h .1) };
+
+    fn capacity(&self) -> usize {
+        self.below.capacity() - full_over(&self.below)
+    }
+
+    fn width(&self) -> usize {
+        16
+    }
+
+    fn full_room(&self) -> usize {
+        full_over(&self.below)
+    }
+
+    fn begin(&mut self, vars: usize) -> Result<(), Refusal> {
+        if vars > self.capacity() {
+            return Err(Refusal::TooManyVariables);
+        }
+        let full = self.full_room();
+        self.below.begin(vars + full)?;
+        self.vars = vars;
+        self.fresh = 0;
+        self.room = full;
+        Ok(())
+    }
+
+    fn add(&mut self, clause: &[i32]) -> Result<(), Refusal> {
+        if clause.len() > 16 {
+            return Err(Refusal::TooLong);
+        }
+        if !all_named(self.vars, clause) {
+            return Err(Refusal::UnknownVariable);
+        }
+        let price = price(clause.len());
+        if price > self.room {
+            return Err(Refusal::NoRoom);
+        }
+        let last = self.vars + self.fresh;
+        add_in_threes(&mut self.below, clause, last);
+        self.fresh += clause.len().saturating_sub(3);
+        self.room -= price;
+        Ok(())
+    }
+
+    fn solve(&mut self, assumed: &[i32]) -> Result<bool, Refusal> {
+        if !all_named(self.vars, assumed) {
+            return Err(Refusal::UnknownVariable);
+        }
+        self.below.solve(assumed)
+    }
+
+    fn value(&self, variable: usize) -> Result<bool, Refusal> {
+        if variable > self.vars {
+            return Err(Refusal::NoValue);
+        }
+        self.below.value(variable)
+    }
+}

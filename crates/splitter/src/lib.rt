@@ -1,0 +1,15 @@
+// A solver over any solver: it takes longer clauses, and hands them on in threes.
+mod calls;
+mod threes;
+
+pub use calls::SplitterSolver;
+use solver::Solver;
+
+// Fresh variables of the solver below are numbered after the variables in use here.
+#[derive(Drop)]
+pub struct Splitter<S: Solver> {
+    below: S,
+    vars: usize,
+    fresh: usize,
+    room: usize,
+}
