@@ -55,15 +55,15 @@ and-none v (suc k) n m row h l =
     let rest = and-none (suc v) k (n / 2) (m / 2) row (bits-rest v n row h) (half-below k m l) in
     let first = bits-first v n row h in
     let apart : min (n % 2) (m % 2) ≡ 0 → (odd m && row (suc v)) ≡ false → eqb (bitAnd n m) 0 ≡ not (meets v (suc k) m row) =
-            λ z o. same-test (bitAnd n m) 0 x 0 (λ e. omega (arith, e, s, z)) (λ e. omega (arith, e, s, z)) ∙ rest ∙ ap (λ b. not (b || meets (suc v) k (m / 2) row)) (sym o) in
+    λ z o. same-test (bitAnd n m) 0 x 0 (λ e. omega (arith, e, s, z)) (λ e. omega (arith, e, s, z)) ∙ rest ∙ ap (λ b. not (b || meets (suc v) k (m / 2) row)) (sym o) in
     ⊎-elim
-      (λ me. apart (omega (arith, me)) (ap (λ b. b && row (suc v)) (odd-no m me)))
-      (λ mo. ⊎-elim
-        (λ ne. apart (omega (arith, ne)) (ap (λ b. odd m && b) (first ∙ odd-no n ne) ∙ and-false (odd m)))
-        (λ no′. ne-eqb (bitAnd n m) 0 (λ e. omega (arith, e, s, no′, mo)) ∙ sym (ap (λ b. not ((b && row (suc v)) || meets (suc v) k (m / 2) row)) (odd-yes m mo) ∙ ap (λ b. not (b || meets (suc v) k (m / 2) row)) (first ∙ odd-yes n no′)))
-        (parity n))
-      (parity m)
-    where
+    (λ me. apart (omega (arith, me)) (ap (λ b. b && row (suc v)) (odd-no m me)))
+    (λ mo. ⊎-elim
+    (λ ne. apart (omega (arith, ne)) (ap (λ b. odd m && b) (first ∙ odd-no n ne) ∙ and-false (odd m)))
+    (λ no′. ne-eqb (bitAnd n m) 0 (λ e. omega (arith, e, s, no′, mo)) ∙ sym (ap (λ b. not ((b && row (suc v)) || meets (suc v) k (m / 2) row)) (odd-yes m mo) ∙ ap (λ b. not (b || meets (suc v) k (m / 2) row)) (first ∙ odd-yes n no′)))
+    (parity n))
+    (parity m)
+  where
     and-false : (b : Bool) → (b && false) ≡ false
     and-false true = refl
     and-false false = refl
@@ -79,14 +79,14 @@ and-all v (suc k) n m row h l =
     let rest = and-all (suc v) k (n / 2) (m / 2) row (bits-rest v n row h) (half-below k m l) in
     let first = bits-first v n row h in
     let alike : min (n % 2) (m % 2) ≡ m % 2 → (odd m && not (row (suc v))) ≡ false → eqb (bitAnd n m) m ≡ not (meets v (suc k) m (inverse row)) =
-            λ z o. same-test (bitAnd n m) m x (m / 2) (λ e. omega (arith, e, s, z)) (λ e. omega (arith, e, s, z)) ∙ rest ∙ ap (λ b. not (b || meets (suc v) k (m / 2) (inverse row))) (sym o) in
+    λ z o. same-test (bitAnd n m) m x (m / 2) (λ e. omega (arith, e, s, z)) (λ e. omega (arith, e, s, z)) ∙ rest ∙ ap (λ b. not (b || meets (suc v) k (m / 2) (inverse row))) (sym o) in
     ⊎-elim
-      (λ me. alike (omega (arith, me)) (ap (λ b. b && not (row (suc v))) (odd-no m me)))
-      (λ mo. ⊎-elim
-        (λ ne. ne-eqb (bitAnd n m) m (λ e. omega (arith, e, s, ne, mo)) ∙ sym (ap (λ b. not ((b && not (row (suc v))) || meets (suc v) k (m / 2) (inverse row))) (odd-yes m mo) ∙ ap (λ b. not (not b || meets (suc v) k (m / 2) (inverse row))) (first ∙ odd-no n ne)))
-        (λ no′. alike (omega (arith, no′, mo)) (ap (λ b. b && not (row (suc v))) (odd-yes m mo) ∙ ap not (first ∙ odd-yes n no′)))
-        (parity n))
-      (parity m)
+    (λ me. alike (omega (arith, me)) (ap (λ b. b && not (row (suc v))) (odd-no m me)))
+    (λ mo. ⊎-elim
+    (λ ne. ne-eqb (bitAnd n m) m (λ e. omega (arith, e, s, ne, mo)) ∙ sym (ap (λ b. not ((b && not (row (suc v))) || meets (suc v) k (m / 2) (inverse row))) (odd-yes m mo) ∙ ap (λ b. not (not b || meets (suc v) k (m / 2) (inverse row))) (first ∙ odd-no n ne)))
+    (λ no′. alike (omega (arith, no′, mo)) (ap (λ b. b && not (row (suc v))) (odd-yes m mo) ∙ ap not (first ∙ odd-yes n no′)))
+    (parity n))
+    (parity m)
 
 or-again : (o r s : Bool) → ((true && r) || s) ≡ (((o && r) || s) || r)
 or-again true true s = refl

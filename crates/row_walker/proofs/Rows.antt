@@ -25,15 +25,17 @@ pub all-true-inverse : (row : Row) (xs : List ℤ) → all-true row xs ≡ not (
 all-true-inverse row [] = refl
 all-true-inverse row (x ∷ xs) = ap (λ b. holds row x && b) (all-true-inverse row xs) ∙ turned row x (some-true (inverse row) xs)
   where
-  apart : (a b : Bool) → (a && not b) ≡ not (not a || b)
-  apart true b = refl
-  apart false b = refl
-  twice : (a b : Bool) → (not a && not b) ≡ not (not (not a) || b)
-  twice true b = refl
-  twice false b = refl
-  turned : (row : Row) (x : ℤ) (b : Bool) → (holds row x && not b) ≡ not (holds (inverse row) x || b)
-  turned row (pos n) b = apart (row n) b
-  turned row (negsuc n) b = twice (row (suc n)) b
+    apart : (a b : Bool) → (a && not b) ≡ not (not a || b)
+    apart true b = refl
+    apart false b = refl
+
+    twice : (a b : Bool) → (not a && not b) ≡ not (not (not a) || b)
+    twice true b = refl
+    twice false b = refl
+
+    turned : (row : Row) (x : ℤ) (b : Bool) → (holds row x && not b) ≡ not (holds (inverse row) x || b)
+    turned row (pos n) b = apart (row n) b
+    turned row (negsuc n) b = twice (row (suc n)) b
 
 -- the number's bits are the row's values
 pub row-of-bits : (n : ℕ) → Bits-of 0 n (row-of n)
@@ -82,9 +84,13 @@ number-bit row v (suc k) (suc j) l =
 
 -- every row agrees with that of a number below 2 ^ vars
 pub numbered : (row : Row) (vars : ℕ) → (n : ℕ) × (n < 2 ^ vars) × Agree vars row (row-of n)
-numbered row vars = (number row 0 vars, number-below row 0 vars, λ v low high.
-    let e : suc (0 + (v - 1)) ≡ v = omega (arith, low) in
-    sym (number-bit row 0 vars (v - 1) (omega (arith, low, high)) ∙ ap row e))
+numbered row vars = (
+  number row 0 vars,
+  number-below row 0 vars,
+  λ v low high.
+      let e : suc (0 + (v - 1)) ≡ v = omega (arith, low) in
+      sym (number-bit row 0 vars (v - 1) (omega (arith, low, high)) ∙ ap row e),
+)
 
 clause-agree : (vars : ℕ) (a b : Row) → Agree vars a b → (c : Clause) → clause-true vars a c ≡ clause-true vars b c
 clause-agree vars a b g c =

@@ -18,7 +18,7 @@ stands w = record {
   vars = w .vars;
   allowed = λ row. all (clause-true (w .vars) row) (take (w .count) (w .clauses)) ≡ true;
   room = w .room;
-  shown = mapped row-of (w .shown)
+  shown = mapped row-of (w .shown);
 }
 
 pub bounded : (w : RowWalker) → Unit {0} → Bounded (stands w)

@@ -11,12 +11,24 @@ use solver::Solver;
 use solver::all_named;
 use solver::price;
 
+const CAPACITY: usize = 24;
+
+const WIDTH: usize = 16;
+
+const ROOM: usize = 256;
+
 impl RowWalker {
     // A new row walker, as after a begin with no variables.
     pub fn new() -> RowWalker
         ensures { λ r. ⌜ New (stands r) ⌝ }
     {
-        RowWalker { vars: 0, room: 256, count: 0, clauses: [Clause::EMPTY; 256], shown: None }
+        RowWalker {
+            vars: 0,
+            room: ROOM,
+            count: 0,
+            clauses: [Clause::EMPTY; ROOM],
+            shown: None,
+        }
     }
 }
 
@@ -28,30 +40,30 @@ pub impl Solver for RowWalker as RowWalkerSolver {
     ghost bounded = { bounded };
 
     fn capacity(&self) -> usize {
-        24
+        CAPACITY
     }
 
     fn width(&self) -> usize {
-        16
+        WIDTH
     }
 
     fn full_room(&self) -> usize {
-        256
+        ROOM
     }
 
     fn begin(&mut self, vars: usize) -> Result<(), Refusal> {
-        if vars > 24 {
+        if vars > CAPACITY {
             return Err(Refusal::TooManyVariables);
         }
         self.vars = vars;
         self.count = 0;
-        self.room = 256;
+        self.room = ROOM;
         self.shown = None;
         Ok(())
     }
 
     fn add(&mut self, clause: &[i32]) -> Result<(), Refusal> {
-        if clause.len() > 16 {
+        if clause.len() > WIDTH {
             return Err(Refusal::TooLong);
         }
         if !all_named(self.vars, clause) {
@@ -65,7 +77,7 @@ pub impl Solver for RowWalker as RowWalkerSolver {
         self.clauses[at] = Clause::of(clause);
         self.count = at + 1;
         self.room -= price;
-        self.shown = None;
+        self.shown = None; // the row shown may break the clause
         Ok(())
     }
 
@@ -80,7 +92,9 @@ pub impl Solver for RowWalker as RowWalkerSolver {
 
     fn value(&self, variable: usize) -> Result<bool, Refusal> {
         match self.shown {
-            Some(row) if 0 < variable && variable <= self.vars => Ok((row >> (variable - 1)) % 2 == 1),
+            Some(row) if 0 < variable && variable <= self.vars => Ok(
+                (row >> (variable - 1)) % 2 == 1,
+            ),
             _ => Err(Refusal::NoValue),
         }
     }

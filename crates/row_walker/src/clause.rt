@@ -14,7 +14,10 @@ pub struct Clause {
 
 impl Clause {
     // The clause of no literal.
-    pub const EMPTY: Clause = Clause { positive: 0, negative: 0 };
+    pub const EMPTY: Clause = Clause {
+        positive: 0,
+        negative: 0,
+    };
 
     // The clause with one literal more.
     fn with(self, literal: i32) -> Clause
@@ -24,9 +27,15 @@ impl Clause {
     {
         let bit = 1 << (literal.unsigned_abs() - 1);
         if literal < 0 {
-            Clause { positive: self.positive, negative: self.negative | bit }
+            Clause {
+                positive: self.positive,
+                negative: self.negative | bit,
+            }
         } else {
-            Clause { positive: self.positive | bit, negative: self.negative }
+            Clause {
+                positive: self.positive | bit,
+                negative: self.negative,
+            }
         }
     }
 

@@ -14,25 +14,25 @@ module _ {X : Type 0} (p : X → Bool) where
   all-append [] ys = refl
   all-append (x ∷ xs) ys = rw (all-append xs ys) (grouped (p x) (all p xs) (all p ys))
     where
-    grouped : (a b c : Bool) → (a && (b && c)) ≡ ((a && b) && c)
-    grouped true b c = refl
-    grouped false b c = refl
+      grouped : (a b c : Bool) → (a && (b && c)) ≡ ((a && b) && c)
+      grouped true b c = refl
+      grouped false b c = refl
 
   pub any-append : (xs ys : List X) → any p (xs ++ ys) ≡ (any p xs || any p ys)
   any-append [] ys = refl
   any-append (x ∷ xs) ys = rw (any-append xs ys) (grouped (p x) (any p xs) (any p ys))
     where
-    grouped : (a b c : Bool) → (a || (b || c)) ≡ ((a || b) || c)
-    grouped true b c = refl
-    grouped false b c = refl
+      grouped : (a b c : Bool) → (a || (b || c)) ≡ ((a || b) || c)
+      grouped true b c = refl
+      grouped false b c = refl
 
   -- one element more is one test more
   pub any-next : (xs : List X) (i : ℕ) (d : X) → i < length xs → any p (take (i + 1) xs) ≡ (any p (take i xs) || p (getD xs i d))
   any-next xs i d l = ap (any p) (take-more xs i d l) ∙ any-append (take i xs) (getD xs i d ∷ []) ∙ ap (λ b. any p (take i xs) || b) (or-end (p (getD xs i d)))
     where
-    or-end : (b : Bool) → (b || false) ≡ b
-    or-end true = refl
-    or-end false = refl
+      or-end : (b : Bool) → (b || false) ≡ b
+      or-end true = refl
+      or-end false = refl
 
   -- one element more passes
   pub all-more : (xs : List X) (i : ℕ) (d : X) → i < length xs → all p (take i xs) ≡ true → p (getD xs i d) ≡ true → all p (take (i + 1) xs) ≡ true

@@ -40,7 +40,8 @@ module _ (m : Meaning) (whole : Row → Bool) (n : Meaning) (rest : Row → Bool
         vars = added .vars ∙ h .vars;
         only = λ row p t. let q = added .only row p in h .only row (q .0) (e row ∙ and-from _ _ (q .1) t);
         each = λ row p t. let q = h .each row p t in let f = and-parts (some-true row c) (left row) (sym (e row) ∙ q .1) in (added .each row (q .0) (f .0), f .1);
-        room = omega arith }
+        room = omega arith;
+      }
 
   -- the last clause was added
   pub partly-all : ((row : Row) → rest row ≡ some-true row c) → (clause : List ℤ) (last : ℕ) → ((row : Row) → whole row ≡ in-threes row clause last) → price (length clause) ≡ spent + 1 → Split m clause last k
@@ -54,7 +55,8 @@ module _ (m : Meaning) (whole : Row → Bool) (n : Meaning) (rest : Row → Bool
         only = λ row p. let q = added .only row p in let f = h .only row (q .0) (e row ∙ q .1) in (f .0, sym (w row) ∙ f .1);
         each = λ row p t. let q = h .each row p (w row ∙ t) in added .each row (q .0) (sym (e row) ∙ q .1);
         room = omega arith;
-        shown = added .shown }
+        shown = added .shown;
+      }
 
 or-false : (b : Bool) → b ≡ (b || false)
 or-false true = refl
@@ -75,7 +77,7 @@ split-short m n c last l a = record {
   only = λ row p. let q = a .only row p in (q .0, threes-short row c last l ∙ q .1);
   each = λ row p t. a .each row p (sym (threes-short row c last l) ∙ t);
   room = a .room;
-  shown = a .shown
+  shown = a .shown;
 }
 
 -- the negation of a variable's literal

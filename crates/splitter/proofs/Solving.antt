@@ -38,8 +38,10 @@ module _ (b : Meaning) (vars fresh room : ℕ) (sound : Sound b vars fresh room)
       vars = refl;
       only = λ row p. (p .0, p .1, h .kept .only (p .0) (p .2));
       each = λ row p. (p .0, p .1, h .kept .each (p .0) (p .2));
-      room = refl };
-    answered = answered t (n .shown) (h .answered) }
+      room = refl;
+    };
+    answered = answered t (n .shown) (h .answered);
+  }
 
   stays : Kept b n → Sound n vars fresh room
   stays k =
@@ -53,7 +55,8 @@ module _ (b : Meaning) (vars fresh room : ℕ) (sound : Sound b vars fresh room)
         in-use = omega arith;
         roomy = omega arith;
         enough = omega arith;
-        free = λ x y g p. k .each y (sound .free x y g (k .only x p)) }
+        free = λ x y g p. k .each y (sound .free x y g (k .only x p));
+      }
 
   -- the solver below does not refuse what the splitter does not
   taken : (e : Refusal) → refusal {X = Bool} (Err e) ≡ solve-refusal b a → ⊥

@@ -163,4 +163,5 @@ module _ (b : Meaning) (vars fresh room : ℕ) (sound : Sound b vars fresh room)
         in-use = omega arith;
         roomy = omega arith;
         enough = omega arith;
-        free = λ x y g. split-free x y (λ w low high. g w low (omega (arith, high, e))) }
+        free = λ x y g. split-free x y (λ w low high. g w low (omega (arith, high, e)));
+      }

@@ -17,7 +17,7 @@ over b vars room = record {
   vars = vars;
   allowed = λ row. ((r : Row) × Agree vars row r × b .allowed r);
   room = room;
-  shown = b .shown
+  shown = b .shown;
 }
 
 pub record Sound (b : Meaning) (vars fresh room : ℕ) : Type 0 where

@@ -10,6 +10,8 @@ use solver::Solver;
 use solver::all_named;
 use solver::price;
 
+const WIDTH: usize = 16;
+
 // The full room over a solver.
 fn full_over<S: Solver>(below: &S) -> usize
     ensures { λ r. ⌜ r ≡ sizes-over (S·Solver .meaning (now (below .entry)) .sizes) .full ⌝ }
@@ -27,7 +29,12 @@ impl<S: Solver> Splitter<S> {
     {
         let full = full_over(&below);
         let _ = below.begin(full);
-        Splitter { below, vars: 0, fresh: 0, room: full }
+        Splitter {
+            below,
+            vars: 0,
+            fresh: 0,
+            room: full,
+        }
     }
 }
 
@@ -39,11 +46,11 @@ pub impl<S: Solver> Solver for Splitter<S> as SplitterSolver {
     ghost bounded = { λ s h. bounded (S·Solver .meaning (s .below)) (s .vars) (s .fresh) (s .room) (S·Solver .bounded (s .below) (h .0)) (h .1) };
 
     fn capacity(&self) -> usize {
-        self.below.capacity() - full_over(&self.below)
+        self.below.capacity() - self.full_room()
     }
 
     fn width(&self) -> usize {
-        16
+        WIDTH
     }
 
     fn full_room(&self) -> usize {
@@ -63,7 +70,7 @@ pub impl<S: Solver> Solver for Splitter<S> as SplitterSolver {
     }
 
     fn add(&mut self, clause: &[i32]) -> Result<(), Refusal> {
-        if clause.len() > 16 {
+        if clause.len() > WIDTH {
             return Err(Refusal::TooLong);
         }
         if !all_named(self.vars, clause) {

@@ -17,9 +17,10 @@ of-wanted-requires c κs = all-named-up (c .args .vars) 24 (c .pre .vars) (c .ar
 
 pub returns-then-allows : need.returns-then-allows
 returns-then-allows c =
-    let means = c .of-wanted .ensures (c .args .vars) (c .pre .vars) (c .pre .assumed) in
-    (sym (c .allows .ensures (c .args .vars) (c .pre .clauses)) ∙ c .if-allows .taken,
-     sym (wanted-tested (c .args .vars) (c .loop-row .row) (c .args .assumed .now) (c .of-wanted .result) (c .all-true .result) means (c .all-true .ensures (c .args .vars))) ∙ c .if-all-true .taken)
+    let means = c .of-wanted .ensures (c .args .vars) (c .pre .vars) (c .pre .assumed) in (
+      sym (c .allows .ensures (c .args .vars) (c .pre .clauses)) ∙ c .if-allows .taken,
+      sym (wanted-tested (c .args .vars) (c .loop-row .row) (c .args .assumed .now) (c .of-wanted .result) (c .all-true .result) means (c .all-true .ensures (c .args .vars))) ∙ c .if-all-true .taken,
+    )
 
 pub loop-row-again : need.loop-row-again
 loop-row-again c =
@@ -27,6 +28,7 @@ loop-row-again c =
     let a = c .args .assumed .now in
     let means = c .of-wanted .ensures vars (c .pre .vars) (c .pre .assumed) in
     below-more (λ n. all (clause-true vars (row-of n)) (c .args .clauses .now) ≡ true → all-true (row-of n) a ≡ true → ⊥) (c .loop-row .row) (c .loop-row .inv)
-      (λ h t. elim (c .else-all-true .came) [
-        else-all-true·by·then-all-true·else-allows w ↦ both-ways _ (w .if-allows .left) (w .allows .ensures vars (c .pre .clauses) ∙ h)
-      | else-all-true·by·else-all-true w ↦ both-ways _ (w .if-all-true .left) (wanted-tested vars (c .loop-row .row) a (c .of-wanted .result) (c .all-true .result) means (c .all-true .ensures vars) ∙ t) ])
+    (λ h t. elim (c .else-all-true .came) [
+      | else-all-true·by·then-all-true·else-allows w ↦ both-ways _ (w .if-allows .left) (w .allows .ensures vars (c .pre .clauses) ∙ h)
+      | else-all-true·by·else-all-true w ↦ both-ways _ (w .if-all-true .left) (wanted-tested vars (c .loop-row .row) a (c .of-wanted .result) (c .all-true .result) means (c .all-true .ensures vars) ∙ t)
+    ])

@@ -19,8 +19,13 @@ returns g c =
     record {
       fresh = record { sizes = refl; vars = refl; every = λ row. (row, (λ v _ _. refl), h .every row); room = e ∙ same; shown = h .shown };
       sizes = ap sizes-over (h .sizes);
-      sound = (c .begin .ensures .sound, record {
-        in-use = omega (arith, h .vars, e, same);
-        roomy = omega (arith, h .room, e);
-        enough = omega (arith, e, same);
-        free = λ x y _ _. h .every y }) }
+      sound = (
+        c .begin .ensures .sound,
+        record {
+          in-use = omega (arith, h .vars, e, same);
+          roomy = omega (arith, h .room, e);
+          enough = omega (arith, e, same);
+          free = λ x y _ _. h .every y;
+        },
+      );
+    }

@@ -30,9 +30,12 @@ loop-i-holds g c =
     let same = toZ-ofZ w32 x fits in
     let long = c .pre .long in
     let room = c .pre .fresh in
-    let known = all-at (named last) xs 0 (pos 0) (omega arith) (c .pre .named) in
-    (c .pre .sound, refl, ap (named (m .vars)) same ∙ named-up last (m .vars) (omega arith) x known,
-     partly-none m _ _ (λ row. chain-first xs last (omega arith) row ∙ ap (λ y. chain row (holds row y) (drop 1 xs) last) (sym same)))
+    let known = all-at (named last) xs 0 (pos 0) (omega arith) (c .pre .named) in (
+      c .pre .sound,
+      refl,
+      ap (named (m .vars)) same ∙ named-up last (m .vars) (omega arith) x known,
+      partly-none m _ _ (λ row. chain-first xs last (omega arith) row ∙ ap (λ y. chain row (holds row y) (drop 1 xs) last) (sym same)),
+    )
 
 -- a fresh variable is one of the solver below
 pub literal-requires : need.literal-requires
@@ -63,9 +66,10 @@ add-three-requires g c κs =
     record {
       sound = h .0;
       named = and-from _ _ (h .2) (and-from _ _
-        (ap (named (n .vars)) (toZ-ofZ w32 x fits) ∙ named-up (c .args .last) (n .vars) (omega arith) x known)
-        (and-from _ _ (ap (named (n .vars)) (toZ-ofZ w32 (c .literal .result) link ∙ c .literal .ensures) ∙ named-positive (n .vars) (c .loop-i .fresh + 1) (omega arith) (omega arith)) refl));
-      room = omega (arith, h .3 .room, c .pre .room, c .loop-i .kept .i) }
+          (ap (named (n .vars)) (toZ-ofZ w32 x fits) ∙ named-up (c .args .last) (n .vars) (omega arith) x known)
+          (and-from _ _ (ap (named (n .vars)) (toZ-ofZ w32 (c .literal .result) link ∙ c .literal .ensures) ∙ named-positive (n .vars) (c .loop-i .fresh + 1) (omega arith) (omega arith)) refl));
+      room = omega (arith, h .3 .room, c .pre .room, c .loop-i .kept .i);
+    }
 
 pub loop-i-again : need.loop-i-again
 loop-i-again g c =
@@ -84,12 +88,14 @@ loop-i-again g c =
     let now-vars = c .add-three .ensures .added .vars in
     let were-vars = h .3 .vars in
     let turned : SFits w32 (c .negation-head .result) = search needs in
-    let back = toZ-ofZ w32 (c .negation-head .result) turned ∙ c .negation-head .ensures in
-    (c .add-three .ensures .sound, omega arith,
-     ap (named (n .vars)) back ∙ named-negation (n .vars) (c .loop-i .fresh + 1) (omega arith) (omega arith),
-     partly-more m _ _ _ (i - 1) (h .3) _ (lit≤ tt) _ (c .add-three .ensures .added) _
-       (chain-step xs i (c .loop-i .fresh) _ _ _ _ (omega arith) (toZ-ofZ w32 x fits) (toZ-ofZ w32 (c .literal .result) link ∙ c .literal .ensures) back)
-       (i + 1 - 1) (omega arith))
+    let back = toZ-ofZ w32 (c .negation-head .result) turned ∙ c .negation-head .ensures in (
+      c .add-three .ensures .sound,
+      omega arith,
+      ap (named (n .vars)) back ∙ named-negation (n .vars) (c .loop-i .fresh + 1) (omega arith) (omega arith),
+      partly-more m _ _ _ (i - 1) (h .3) _ (lit≤ tt) _ (c .add-three .ensures .added) _
+          (chain-step xs i (c .loop-i .fresh) _ _ _ _ (omega arith) (toZ-ofZ w32 x fits) (toZ-ofZ w32 (c .literal .result) link ∙ c .literal .ensures) back)
+          (i + 1 - 1) (omega arith),
+    )
 
 pub add-three-requires-2 : need.add-three-requires-2
 add-three-requires-2 g c κs =
@@ -109,9 +115,10 @@ add-three-requires-2 g c κs =
     record {
       sound = h .0;
       named = and-from _ _ (h .2) (and-from _ _
-        (ap (named (n .vars)) (toZ-ofZ w32 x fits-x) ∙ named-up (c .args .last) (n .vars) (omega arith) x known-x)
-        (and-from _ _ (ap (named (n .vars)) (toZ-ofZ w32 y fits-y) ∙ named-up (c .args .last) (n .vars) (omega arith) y known-y) refl));
-      room = omega (arith, h .3 .room, c .pre .room, c .loop-i .kept .i-end) }
+          (ap (named (n .vars)) (toZ-ofZ w32 x fits-x) ∙ named-up (c .args .last) (n .vars) (omega arith) x known-x)
+          (and-from _ _ (ap (named (n .vars)) (toZ-ofZ w32 y fits-y) ∙ named-up (c .args .last) (n .vars) (omega arith) y known-y) refl));
+      room = omega (arith, h .3 .room, c .pre .room, c .loop-i .kept .i-end);
+    }
 
 pub returns : need.returns
 returns g c =
@@ -130,5 +137,6 @@ returns g c =
     record {
       sound = c .add-three-2 .ensures .sound;
       split = partly-all m _ _ _ (i - 1) (h .3) _ (lit≤ tt) _ (c .add-three-2 .ensures .added)
-        (chain-last xs i (c .loop-i .fresh) _ _ _ (omega arith) (toZ-ofZ w32 x fits-x ∙ ap (λ k. getD xs k (pos 0)) (sym end)) (toZ-ofZ w32 y fits-y ∙ ap (λ k. getD xs k (pos 0)) (omega arith)))
-        xs (c .args .last) (λ row. refl) (cond-false _ _ _ (lt-leb len 3 (omega arith)) ∙ omega arith) }
+          (chain-last xs i (c .loop-i .fresh) _ _ _ (omega arith) (toZ-ofZ w32 x fits-x ∙ ap (λ k. getD xs k (pos 0)) (sym end)) (toZ-ofZ w32 y fits-y ∙ ap (λ k. getD xs k (pos 0)) (omega arith)))
+          xs (c .args .last) (λ row. refl) (cond-false _ _ _ (lt-leb len 3 (omega arith)) ∙ omega arith);
+    }

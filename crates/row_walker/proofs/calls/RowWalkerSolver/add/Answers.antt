@@ -34,13 +34,14 @@ returns c =
     let means = c .of .ensures (w .vars) (w .ok .0) known in
     let fits : price (length (c .args .clause .now)) ≤ w .room = omega arith in
     record {
-      refused = add-accepted (stands w) (c .args .clause .now) (c .if-clause-gt16 .left) known fits;
+      refused = add-accepted (stands w) (c .args .clause .now) (c .if-clause-gt-WIDTH .left) known fits;
       cases = record {
         sizes = refl;
         vars = refl;
         only = λ row h. let r = all-written-parts (clause-true (w .vars) row) (w .clauses) (w .count) (c .of .result) within-array h in (r .0, sym (means .says row) ∙ r .1);
         each = λ row h t. all-written (clause-true (w .vars) row) (w .clauses) (w .count) (c .of .result) within-array h (means .says row ∙ t);
         room = omega arith;
-        shown = refl };
-      sound = tt
+        shown = refl;
+      };
+      sound = tt;
     }

@@ -18,6 +18,7 @@ returns c =
       refused = solve-accepted (stands w) (c .args .assumed .now) known;
       cases = record {
         kept = record { sizes = refl; vars = refl; only = λ _ h. h; each = λ _ h. h; room = refl };
-        answered = rw (c .is-some .ensures) (found-answers (stands w) (w .vars) (take (w .count) (w .clauses)) (c .args .assumed .now) (λ _ h. h) (λ _ h. h) known (c .first-row-found .result) (subst (λ (k : ℕ). Found (w .vars) (take k (w .clauses)) (c .args .assumed .now) (c .first-row-found .result)) whole (c .first-row-found .ensures))) };
-      sound = tt
+        answered = rw (c .is-some .ensures) (found-answers (stands w) (w .vars) (take (w .count) (w .clauses)) (c .args .assumed .now) (λ _ h. h) (λ _ h. h) known (c .first-row-found .result) (subst (λ (k : ℕ). Found (w .vars) (take k (w .clauses)) (c .args .assumed .now) (c .first-row-found .result)) whole (c .first-row-found .ensures)));
+      };
+      sound = tt;
     }

@@ -20,7 +20,7 @@ use Rattle.row_walker.proofs.clause.Clause.of.Needs as need
 pub loop-literal-holds : need.loop-literal-holds
 loop-literal-holds c vars le known = record {
   inside = and-from _ _ (lt-ltb 0 (2 ^ vars) (pow-pos vars)) (lt-ltb 0 (2 ^ vars) (pow-pos vars));
-  says = λ row. ap (λ b. b || meets 0 vars 0 (inverse row)) (meets-none 0 vars row) ∙ meets-none 0 vars (inverse row)
+  says = λ row. ap (λ b. b || meets 0 vars 0 (inverse row)) (meets-none 0 vars row) ∙ meets-none 0 vars (inverse row);
 }
 
 pub with-clause-requires : need.with-clause-requires
@@ -41,9 +41,10 @@ loop-literal-again c vars le known =
     record {
       inside = c .with-clause .ensures .inside vars le there (h .inside);
       says = λ row. c .with-clause .ensures .says vars le there row
-        ∙ ap (λ b. clause-true vars row (c .loop-literal .clause) || holds row b) same
-        ∙ ap (λ b. b || holds row x) (h .says row)
-        ∙ sym (any-next (holds row) xs i (pos 0) (c .loop-literal-test .taken)) }
+          ∙ ap (λ b. clause-true vars row (c .loop-literal .clause) || holds row b) same
+          ∙ ap (λ b. b || holds row x) (h .says row)
+          ∙ sym (any-next (holds row) xs i (pos 0) (c .loop-literal-test .taken));
+    }
 
 pub returns : need.returns
 returns c vars le known = rw (take-all _ _ (c .loop-literal-test .left)) at (c .loop-literal .inv vars le known)

@@ -34,7 +34,8 @@ returns-then-literal-lt0 c =
     let clause : ℕ → Clause = λ b. record { positive = k .positive; negative = bitOr (k .negative) b } in
     record {
       inside = λ vars le known h. ap (λ b. within vars (clause b)) bit ∙ negative-inside k x vars known h;
-      says = λ vars le known row. ap (λ b. clause-true vars row (clause b)) bit ∙ negative-says k x vars known sign row }
+      says = λ vars le known row. ap (λ b. clause-true vars row (clause b)) bit ∙ negative-says k x vars known sign row;
+    }
 
 pub returns-else-literal-lt0 : need.returns-else-literal-lt0
 returns-else-literal-lt0 c =
@@ -46,4 +47,5 @@ returns-else-literal-lt0 c =
     let clause : ℕ → Clause = λ b. record { positive = bitOr (k .positive) b; negative = k .negative } in
     record {
       inside = λ vars le known h. ap (λ b. within vars (clause b)) bit ∙ positive-inside k x vars known h;
-      says = λ vars le known row. ap (λ b. clause-true vars row (clause b)) bit ∙ positive-says k x vars known sign row }
+      says = λ vars le known row. ap (λ b. clause-true vars row (clause b)) bit ∙ positive-says k x vars known sign row;
+    }

@@ -25,7 +25,8 @@ add-in-threes-requires g c κs =
       sound = c .pre .0;
       named = all-named-up (w .vars) (w .vars + w .fresh) (omega arith) xs known;
       fresh = omega (arith, s .in-use, s .enough, left, cost, fresh-paid (length xs));
-      room = omega (arith, s .roomy, left, cost) }
+      room = omega (arith, s .roomy, left, cost);
+    }
 
 pub returns : need.returns
 returns g c =
@@ -40,12 +41,14 @@ returns g c =
     let left = c .if-price-self .left in
     let fits : price (length xs) ≤ w .room = omega (arith, left, cost) in
     record {
-      refused = add-accepted (over b (w .vars) (w .room)) xs (c .if-clause-gt16 .left) known fits;
+      refused = add-accepted (over b (w .vars) (w .room)) xs (c .if-clause-gt-WIDTH .left) known fits;
       cases = record {
         sizes = ap sizes-over (split .sizes);
         vars = refl;
         only = split-only b (w .vars) (w .fresh) (w .room) s xs known n split (w .room - c .price-price .result);
         each = split-each b (w .vars) (w .fresh) (w .room) s xs known n split (w .room - c .price-price .result);
         room = omega (arith, left, cost);
-        shown = split .shown };
-      sound = (c .add-in-threes .ensures .sound, split-sound b (w .vars) (w .fresh) (w .room) s xs known n split (c .saturating-sub .result) (w .room - c .price-price .result) (c .saturating-sub .ensures) (omega (arith, left, cost))) }
+        shown = split .shown;
+      };
+      sound = (c .add-in-threes .ensures .sound, split-sound b (w .vars) (w .fresh) (w .room) s xs known n split (c .saturating-sub .result) (w .room - c .price-price .result) (c .saturating-sub .ensures) (omega (arith, left, cost)));
+    }

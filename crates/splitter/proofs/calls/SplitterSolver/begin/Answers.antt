@@ -17,9 +17,15 @@ returns g c =
         vars = refl;
         every = λ row. (row, (λ v _ _. refl), b .every row);
         room = full;
-        shown = b .shown };
-      sound = (c .begin .ensures .sound, record {
-        in-use = b .vars ∙ ap (λ n. c .args .vars + n) (full ∙ ap full-over (sym (b .sizes)));
-        roomy = omega (arith, b .room, full);
-        enough = omega (arith, full, ap full-over (b .sizes));
-        free = λ x y _ _. b .every y }) }
+        shown = b .shown;
+      };
+      sound = (
+        c .begin .ensures .sound,
+        record {
+          in-use = b .vars ∙ ap (λ n. c .args .vars + n) (full ∙ ap full-over (sym (b .sizes)));
+          roomy = omega (arith, b .room, full);
+          enough = omega (arith, full, ap full-over (b .sizes));
+          free = λ x y _ _. b .every y;
+        },
+      );
+    }

@@ -16,4 +16,5 @@ returns g c =
     record {
       refused = asked-above b (w .vars) (w .fresh) (w .room) (c .pre .1) a known n r (c .solve .ensures .refused);
       cases = solved-above b (w .vars) (w .fresh) (w .room) (c .pre .1) a known n r _ _ (c .solve .ensures .refused) (c .solve .ensures .cases);
-      sound = (c .solve .ensures .sound, sound-above b (w .vars) (w .fresh) (w .room) (c .pre .1) a known n r _ (c .solve .ensures .refused) (c .solve .ensures .cases)) }
+      sound = (c .solve .ensures .sound, sound-above b (w .vars) (w .fresh) (w .room) (c .pre .1) a known n r _ (c .solve .ensures .refused) (c .solve .ensures .cases));
+    }
