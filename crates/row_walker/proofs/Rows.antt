@@ -7,6 +7,7 @@ use native.Mathlib.Nat.{le-of-suc-le-suc, not-suc-le-zero, pow-suc}
 use native.Mathlib.Omega.{arith}
 use lib.Dec.{eqb}
 use lib.IntN.{ℤ, pos, negsuc}
+use lib.ListN.{take}
 use lib.Pow.{shr-shr}
 use Rattle.std.specs.Options.{isSome, mapped}
 use Rattle.std.specs.declared.option.Option.{Option}
@@ -112,3 +113,7 @@ found-answers m vars cs a to from known (Some n) f = (from (row-of n) (f .0), f 
 -- the masks of the assumed literals, tested in a row, tell whether each of these is true there
 pub wanted-tested : (vars n : ℕ) (a : List ℤ) (c : Clause) (t : Bool) → Means vars a c → (within vars c ≡ true → t ≡ not (clause-true vars (inverse (row-of n)) c)) → t ≡ all-true (row-of n) a
 wanted-tested vars n a c t m h = h (m .inside) ∙ ap not (m .says (inverse (row-of n))) ∙ sym (all-true-inverse (row-of n) a)
+
+-- a walker with the same variables and clauses in use allows the same rows
+pub allowed-alike : (v v′ n n′ : ℕ) (cs cs′ : List Clause) → v′ ≡ v → n′ ≡ n → cs′ ≡ cs → (row : Row) → all (clause-true v′ row) (take n′ cs′) ≡ all (clause-true v row) (take n cs)
+allowed-alike v v′ n n′ cs cs′ e f g row = ap (λ x. all (clause-true x row) (take n′ cs′)) e ∙ ap (λ x. all (clause-true v row) (take x cs′)) f ∙ ap (λ x. all (clause-true v row) (take n x)) g

@@ -73,11 +73,7 @@ pub impl Solver for RowWalker as RowWalkerSolver {
         if price > self.room {
             return Err(Refusal::NoRoom);
         }
-        let at = self.count;
-        self.clauses[at] = Clause::of(clause);
-        self.count = at + 1;
-        self.room -= price;
-        self.shown = None; // the row shown may break the clause
+        self.keep(Clause::of(clause), price);
         Ok(())
     }
 
@@ -86,8 +82,7 @@ pub impl Solver for RowWalker as RowWalkerSolver {
             return Err(Refusal::UnknownVariable);
         }
         let found = first_row(self.vars, &self.clauses[0..self.count], assumed);
-        self.shown = found;
-        Ok(found.is_some())
+        Ok(self.show(found))
     }
 
     fn value(&self, variable: usize) -> Result<bool, Refusal> {

@@ -2,11 +2,12 @@
 ghost use mathlib.Core.Path.{_≡_};
 ghost use mathlib.Core.Bool.{true};
 ghost use Prim.Native.Nat.{_+_, _≤_};
-ghost use lib.ListN.{take};
+ghost use lib.ListN.{length, take};
 ghost use Rattle.solver.specs.Lists.{all};
 ghost use Rattle.row_walker.specs.Masks.{within};
 
 mod calls;
+mod changes;
 mod clause;
 mod walk;
 
@@ -21,5 +22,5 @@ pub struct RowWalker {
     count: usize,
     clauses: [Clause; 256],
     shown: Option<u32>,
-    ghost ok: { (vars ≤ 24) × (count + room ≤ 256) × (all (within vars) (take count clauses) ≡ true) },
+    ghost ok: { (vars ≤ 24) × (count + room ≤ 256) × (all (within vars) (take count clauses) ≡ true) × (length clauses ≡ 256) },
 }
