@@ -5,24 +5,16 @@ use mathlib.Core.Path.{_≡_, refl, ap, sym, _∙_}
 use Prim.Native.Nat.{ℕ, _+_, _≤_}
 use native.Mathlib.Omega.{arith}
 use lib.IntN.{ℤ}
-use Rattle.std.specs.Options.{isSome}
-use Rattle.std.specs.Results.{Cases}
 use Rattle.std.specs.declared.option.Option.{Option}
 use Rattle.std.specs.declared.option.Option.the-variants.{Some, None}
-use Rattle.std.specs.declared.result.Result.{Result}
-use Rattle.std.specs.declared.result.Result.the-variants.{Ok, Err}
-use Rattle.std.proofs.shelf.Tests.{true≢false}
-use Rattle.solver.specs.declared.refusal.Refusal.{Refusal}
 use Rattle.solver.specs.Rows.{Row, Agree, all-named, all-true}
 use Rattle.solver.specs.Meaning.{Meaning, Kept, Answered, Solved}
-use Rattle.solver.specs.Refusals.{refusal, solve-refusal}
 use Rattle.solver.proofs.Rows.{all-named-up, all-true-agree}
-use Rattle.solver.proofs.Refusals.{solve-accepted}
 use Rattle.splitter.specs.Sizes.{full-over, sizes-over}
 use Rattle.splitter.specs.Stands.{over, Sound}
 
 module _ (b : Meaning) (vars fresh room : ℕ) (sound : Sound b vars fresh room) (a : List ℤ) (known : all-named vars a ≡ true) (n : Meaning) where
-  known-below : all-named (b .vars) a ≡ true
+  pub known-below : all-named (b .vars) a ≡ true
   known-below = let e = sound .in-use in all-named-up vars (b .vars) (omega arith) a known
 
   answered : (t : Bool) (o : Option Row) → Answered b a t o → Answered (over b vars room) a t o
@@ -31,7 +23,7 @@ module _ (b : Meaning) (vars fresh room : ℕ) (sound : Sound b vars fresh room)
   answered false None h = λ row p t. h (p .0) (p .2) (sym (all-true-agree vars row (p .0) (p .1) a known) ∙ t)
   answered false (Some row) h = h
 
-  solved : (t : Bool) → Solved b a t n → Solved (over b vars room) a t (over n vars room)
+  pub solved : (t : Bool) → Solved b a t n → Solved (over b vars room) a t (over n vars room)
   solved t h = record {
     kept = record {
       sizes = ap sizes-over (h .kept .sizes);
@@ -43,7 +35,7 @@ module _ (b : Meaning) (vars fresh room : ℕ) (sound : Sound b vars fresh room)
     answered = answered t (n .shown) (h .answered);
   }
 
-  stays : Kept b n → Sound n vars fresh room
+  pub stays : Kept b n → Sound n vars fresh room
   stays k =
       let full = ap full-over (k .sizes) in
       let v = k .vars in
@@ -57,19 +49,3 @@ module _ (b : Meaning) (vars fresh room : ℕ) (sound : Sound b vars fresh room)
         enough = omega arith;
         free = λ x y g p. k .each y (sound .free x y g (k .only x p));
       }
-
-  -- the solver below does not refuse what the splitter does not
-  taken : (e : Refusal) → refusal {X = Bool} (Err e) ≡ solve-refusal b a → ⊥
-  taken e h = true≢false (ap isSome (h ∙ sym (solve-accepted b a known-below)))
-
-  pub solved-above : (r : Result Bool Refusal) (Q R : Refusal → Type 0) → refusal r ≡ solve-refusal b a → Cases r (λ t. Solved b a t n) Q → Cases r (λ t. Solved (over b vars room) a t (over n vars room)) R
-  solved-above (Ok t) Q R h s = solved t s
-  solved-above (Err e) Q R h s = absurd (taken e h)
-
-  pub sound-above : (r : Result Bool Refusal) (Q : Refusal → Type 0) → refusal r ≡ solve-refusal b a → Cases r (λ t. Solved b a t n) Q → Sound n vars fresh room
-  sound-above (Ok t) Q h s = stays (s .kept)
-  sound-above (Err e) Q h s = absurd (taken e h)
-
-  -- and it answers the same questions
-  pub asked-above : (r : Result Bool Refusal) → refusal r ≡ solve-refusal b a → refusal r ≡ solve-refusal (over b vars room) a
-  asked-above r h = h ∙ sym (solve-accepted b a known-below) ∙ solve-accepted (over b vars room) a known

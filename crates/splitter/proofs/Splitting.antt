@@ -150,7 +150,7 @@ module _ (b : Meaning) (vars fresh room : ℕ) (sound : Sound b vars fresh room)
       let gf : Agree (vars + fresh) x y = λ v low high. g v low (omega (arith, high)) in
       split .each y (sound .free x y gf (q .0)) (sym (threes-agree vars x y c (vars + fresh) (omega arith) known g) ∙ q .1)
 
-  pub split-sound : (used left : ℕ) → used ≡ length c - 3 → left + price (length c) ≡ room → Sound n vars (fresh + used) left
+  pub split-sound : (used left : ℕ) → used ≡ fresh + (length c - 3) → left + price (length c) ≡ room → Sound n vars used left
   split-sound used left e f =
       let same = ap full-over (split .sizes) in
       let v = split .vars in

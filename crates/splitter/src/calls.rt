@@ -4,6 +4,9 @@ ghost use Rattle.solver.specs.Meaning.{New};
 ghost use Rattle.splitter.specs.Sizes.{sizes-over};
 ghost use Rattle.splitter.specs.Stands.{over, bounded, Sound};
 use super::Splitter;
+use super::account::Account;
+use super::below::begin_taken;
+use super::below::solve_taken;
 use super::threes::add_in_threes;
 use solver::Refusal;
 use solver::Solver;
@@ -23,27 +26,26 @@ impl<S: Solver> Splitter<S> {
     // Lays a splitter over a solver, which it begins.
     pub fn over(mut below: S) -> Splitter<S>
         requires { ⌜ S·Solver .sound below ⌝ }
-        ensures fresh { λ r. ⌜ New (over (S·Solver .meaning (r .below)) (r .vars) (r .room)) ⌝ }
-        ensures sizes { λ r. ⌜ over (S·Solver .meaning (r .below)) (r .vars) (r .room) .sizes ≡ sizes-over (S·Solver .meaning below .sizes) ⌝ }
-        ensures sound { λ r. ⌜ S·Solver .sound (r .below) × Sound (S·Solver .meaning (r .below)) (r .vars) (r .fresh) (r .room) ⌝ }
+        ensures fresh { λ r. ⌜ New (over (S·Solver .meaning (r .below)) (r .vars) (r .account .room)) ⌝ }
+        ensures sizes { λ r. ⌜ over (S·Solver .meaning (r .below)) (r .vars) (r .account .room) .sizes ≡ sizes-over (S·Solver .meaning below .sizes) ⌝ }
+        ensures sound { λ r. ⌜ S·Solver .sound (r .below) × Sound (S·Solver .meaning (r .below)) (r .vars) (r .account .fresh) (r .account .room) ⌝ }
     {
         let full = full_over(&below);
-        let _ = below.begin(full);
+        begin_taken(&mut below, full);
         Splitter {
             below,
             vars: 0,
-            fresh: 0,
-            room: full,
+            account: Account::of(full),
         }
     }
 }
 
 pub impl<S: Solver> Solver for Splitter<S> as SplitterSolver {
-    ghost meaning = { λ s. over (S·Solver .meaning (s .below)) (s .vars) (s .room) };
+    ghost meaning = { λ s. over (S·Solver .meaning (s .below)) (s .vars) (s .account .room) };
 
-    ghost sound = { λ s. S·Solver .sound (s .below) × Sound (S·Solver .meaning (s .below)) (s .vars) (s .fresh) (s .room) };
+    ghost sound = { λ s. S·Solver .sound (s .below) × Sound (S·Solver .meaning (s .below)) (s .vars) (s .account .fresh) (s .account .room) };
 
-    ghost bounded = { λ s h. bounded (S·Solver .meaning (s .below)) (s .vars) (s .fresh) (s .room) (S·Solver .bounded (s .below) (h .0)) (h .1) };
+    ghost bounded = { λ s h. bounded (S·Solver .meaning (s .below)) (s .vars) (s .account .fresh) (s .account .room) (S·Solver .bounded (s .below) (h .0)) (h .1) };
 
     fn capacity(&self) -> usize {
         self.below.capacity() - self.full_room()
@@ -62,10 +64,9 @@ pub impl<S: Solver> Solver for Splitter<S> as SplitterSolver {
             return Err(Refusal::TooManyVariables);
         }
         let full = self.full_room();
-        self.below.begin(vars + full)?;
+        begin_taken(&mut self.below, vars + full);
         self.vars = vars;
-        self.fresh = 0;
-        self.room = full;
+        self.account = Account::of(full);
         Ok(())
     }
 
@@ -77,13 +78,12 @@ pub impl<S: Solver> Solver for Splitter<S> as SplitterSolver {
             return Err(Refusal::UnknownVariable);
         }
         let price = price(clause.len());
-        if price > self.room {
+        if price > self.account.room {
             return Err(Refusal::NoRoom);
         }
-        let last = self.vars + self.fresh;
+        let last = self.vars + self.account.fresh;
         add_in_threes(&mut self.below, clause, last);
-        self.fresh += clause.len().saturating_sub(3);
-        self.room -= price;
+        self.account.charge(clause.len(), price);
         Ok(())
     }
 
@@ -91,7 +91,7 @@ pub impl<S: Solver> Solver for Splitter<S> as SplitterSolver {
         if !all_named(self.vars, assumed) {
             return Err(Refusal::UnknownVariable);
         }
-        self.below.solve(assumed)
+        Ok(solve_taken(&mut self.below, assumed))
     }
 
     fn value(&self, variable: usize) -> Result<bool, Refusal> {

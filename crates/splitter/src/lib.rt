@@ -1,7 +1,10 @@
 // A solver over any solver: it takes longer clauses, and hands them on in threes.
+mod account;
+mod below;
 mod calls;
 mod threes;
 
+use account::Account;
 pub use calls::SplitterSolver;
 use solver::Solver;
 
@@ -10,6 +13,5 @@ use solver::Solver;
 pub struct Splitter<S: Solver> {
     below: S,
     vars: usize,
-    fresh: usize,
-    room: usize,
+    account: Account,
 }

@@ -5,22 +5,11 @@ ghost use mathlib.Core.List.{[], _∷_};
 ghost use Prim.Native.Nat.{_+_, _-_, _≤_};
 ghost use lib.IntN.{pos, negℤ};
 ghost use lib.ListN.{length};
-ghost use Rattle.std.specs.declared.option.Option.the-variants.{None};
 ghost use Rattle.solver.specs.Rows.{all-named, price};
 ghost use Rattle.solver.specs.Meaning.{Added};
-ghost use Rattle.solver.specs.Refusals.{add-refusal};
 ghost use Rattle.splitter.specs.Chains.{Split};
+use super::below::add_taken;
 use solver::Solver;
-
-// Adds a clause that the solver takes.
-fn add_taken<S: Solver>(below: &mut S, clause: &[i32])
-    requires sound { ⌜ S·Solver .sound (now below) ⌝ }
-    requires taken { ⌜ None ≡ add-refusal (S·Solver .meaning (now below)) (now clause) ⌝ }
-    ensures sound { λ _. ⌜ S·Solver .sound (now (below .exit)) ⌝ }
-    ensures added { λ _. ⌜ Added (S·Solver .meaning (now (below .entry))) (now (clause .entry)) (S·Solver .meaning (now (below .exit))) ⌝ }
-{
-    let _ = below.add(clause);
-}
 
 // Adds a clause of three literals, for which there is room.
 fn add_three<S: Solver>(below: &mut S, x: i32, y: i32, z: i32)

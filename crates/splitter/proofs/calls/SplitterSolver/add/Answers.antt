@@ -23,10 +23,17 @@ add-in-threes-requires g c κs =
     let cost = c .price-price .ensures in
     record {
       sound = c .pre .0;
-      named = all-named-up (w .vars) (w .vars + w .fresh) (omega arith) xs known;
+      named = all-named-up (w .vars) (w .vars + w .account .fresh) (omega arith) xs known;
       fresh = omega (arith, s .in-use, s .enough, left, cost, fresh-paid (length xs));
       room = omega (arith, s .roomy, left, cost);
     }
+
+pub charge-requires : need.charge-requires
+charge-requires g c κs =
+    let w = c .args .self .now in
+    let b = g .S·Solver .bounded (w .below) (c .pre .0) in
+    let s = c .pre .1 in
+    record { fits = omega (arith, s .enough, b .capacity, c .if-clause-gt-WIDTH .left); paid = c .if-price-self .left }
 
 pub returns : need.returns
 returns g c =
@@ -36,19 +43,20 @@ returns g c =
     let n = g .S·Solver .meaning (c .add-in-threes .last .below) in
     let s = c .pre .1 in
     let known : all-named (w .vars) xs ≡ true = sym (c .if-not-all-named .ensures tt) in
-    let split : Split b xs (w .vars + w .fresh) n = c .add-in-threes .ensures .split in
+    let split : Split b xs (w .vars + w .account .fresh) n = c .add-in-threes .ensures .split in
     let cost = c .price-price .ensures in
     let left = c .if-price-self .left in
-    let fits : price (length xs) ≤ w .room = omega (arith, left, cost) in
+    let fits : price (length xs) ≤ w .account .room = omega (arith, left, cost) in
+    let after = c .charge .last .self in
     record {
-      refused = add-accepted (over b (w .vars) (w .room)) xs (c .if-clause-gt-WIDTH .left) known fits;
+      refused = add-accepted (over b (w .vars) (w .account .room)) xs (c .if-clause-gt-WIDTH .left) known fits;
       cases = record {
         sizes = ap sizes-over (split .sizes);
         vars = refl;
-        only = split-only b (w .vars) (w .fresh) (w .room) s xs known n split (w .room - c .price-price .result);
-        each = split-each b (w .vars) (w .fresh) (w .room) s xs known n split (w .room - c .price-price .result);
-        room = omega (arith, left, cost);
+        only = split-only b (w .vars) (w .account .fresh) (w .account .room) s xs known n split (after .room);
+        each = split-each b (w .vars) (w .account .fresh) (w .account .room) s xs known n split (after .room);
+        room = omega (arith, c .charge .ensures .room, cost);
         shown = split .shown;
       };
-      sound = (c .add-in-threes .ensures .sound, split-sound b (w .vars) (w .fresh) (w .room) s xs known n split (c .saturating-sub .result) (w .room - c .price-price .result) (c .saturating-sub .ensures) (omega (arith, left, cost)));
+      sound = (c .add-in-threes .ensures .sound, split-sound b (w .vars) (w .account .fresh) (w .account .room) s xs known n split (after .fresh) (after .room) (c .charge .ensures .fresh) (omega (arith, c .charge .ensures .room, cost)));
     }

@@ -2,19 +2,29 @@
 use mathlib.Core.Bool.{true}
 use mathlib.Core.Path.{_≡_, sym}
 use Rattle.solver.specs.Rows.{all-named}
-use Rattle.splitter.proofs.Solving.{solved-above, sound-above, asked-above}
+use Rattle.solver.proofs.Refusals.{solve-accepted}
+use Rattle.splitter.specs.Stands.{over}
+use Rattle.splitter.proofs.Solving.{known-below, solved, stays}
 use Rattle.splitter.proofs.calls.SplitterSolver.solve.Needs as need
+
+pub solve-taken-requires : need.solve-taken-requires
+solve-taken-requires g c κs =
+    let w = c .args .self .now in
+    let b = g .S·Solver .meaning (w .below) in
+    let a = c .args .assumed .now in
+    let known : all-named (w .vars) a ≡ true = sym (c .if-not-all-named .ensures tt) in
+    record { sound = c .pre .0; taken = solve-accepted b a (known-below b (w .vars) (w .account .fresh) (w .account .room) (c .pre .1) a known b) }
 
 pub returns : need.returns
 returns g c =
     let w = c .args .self .now in
     let b = g .S·Solver .meaning (w .below) in
-    let n = g .S·Solver .meaning (c .solve .last .self) in
+    let n = g .S·Solver .meaning (c .solve-taken .last .below) in
     let a = c .args .assumed .now in
     let known : all-named (w .vars) a ≡ true = sym (c .if-not-all-named .ensures tt) in
-    let r = c .solve .result in
+    let h = c .solve-taken .ensures .solved in
     record {
-      refused = asked-above b (w .vars) (w .fresh) (w .room) (c .pre .1) a known n r (c .solve .ensures .refused);
-      cases = solved-above b (w .vars) (w .fresh) (w .room) (c .pre .1) a known n r _ _ (c .solve .ensures .refused) (c .solve .ensures .cases);
-      sound = (c .solve .ensures .sound, sound-above b (w .vars) (w .fresh) (w .room) (c .pre .1) a known n r _ (c .solve .ensures .refused) (c .solve .ensures .cases));
+      refused = solve-accepted (over b (w .vars) (w .account .room)) a known;
+      cases = solved b (w .vars) (w .account .fresh) (w .account .room) (c .pre .1) a known n (c .solve-taken .result) h;
+      sound = (c .solve-taken .ensures .sound, stays b (w .vars) (w .account .fresh) (w .account .room) (c .pre .1) a known n (h .kept));
     }
