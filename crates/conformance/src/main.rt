@@ -25,6 +25,9 @@ fn main(rt: LibcRuntime) -> io::Result<()> {
     let mut split = Splitter::over(RowWalker::new());
     let mut twice = Splitter::over(Splitter::over(RowWalker::new()));
     println!(rt, "seed {SEED}")?;
+    sizes(&rt, "row walker", &walker)?;
+    sizes(&rt, "splitter over the row walker", &split)?;
+    sizes(&rt, "splitter over that splitter", &twice)?;
     report(
         &rt,
         "row walker",
@@ -68,6 +71,16 @@ fn shared<S: Solver>(solver: &mut S) -> Tally
     ensures { λ _. ⌜ S·Solver .sound (now (solver .exit)) ⌝ }
 {
     play(solver, Model::new(6, 16, 5), Script::new(SEED, 3, 10), 1000)
+}
+
+fn sizes<S: Solver>(rt: &impl Print, name: &str, solver: &S) -> io::Result<()> {
+    let capacity = solver.capacity();
+    let width = solver.width();
+    let room = solver.full_room();
+    println!(
+        rt,
+        "{name}: capacity {capacity}, width {width}, room {room}"
+    )
 }
 
 fn report(rt: &impl Print, name: &str, tally: &Tally) -> io::Result<()> {

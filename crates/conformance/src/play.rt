@@ -22,6 +22,14 @@ fn answer(result: Result<bool, Refusal>) -> u8 {
     }
 }
 
+fn value(result: Result<bool, Refusal>) -> u8 {
+    match result {
+        Ok(false) => 3,
+        Ok(true) => 4,
+        Err(refusal) => refusal.number(),
+    }
+}
+
 // The number of the row shown, read variable by variable.
 fn row_shown<S: Solver>(solver: &S, vars: usize) -> Option<usize>
     requires { ⌜ S·Solver .sound (now solver) ⌝ }
@@ -93,8 +101,8 @@ pub fn play<S: Solver>(solver: &mut S, mut model: Model, mut script: Script, cal
             Call::Add(clause) => add(solver, &mut model, clause.as_slice(), &mut tally),
             Call::Solve(assumed) => solve(solver, &mut model, assumed.as_slice(), &mut tally),
             Call::Value(variable) => tally.count(
-                answer(solver.value(variable)),
-                answer(model.value(variable)),
+                value(solver.value(variable)),
+                value(model.value(variable)),
             ),
         }
     }

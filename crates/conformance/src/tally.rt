@@ -23,7 +23,7 @@ impl Tally {
         digest: 0,
     };
 
-    // Counts an answer, as a code: 0 no, 1 yes, 2 done, or the number of a refusal.
+    // Counts an answer, as a code: 0 no, 1 yes, 2 done, 3 and 4 a value, or the number of a refusal.
     pub fn count(&mut self, told: u8, expected: u8) {
         self.calls = self.calls.saturating_add(1);
         if told != expected {

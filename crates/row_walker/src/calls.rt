@@ -11,12 +11,6 @@ use solver::Solver;
 use solver::all_named;
 use solver::price;
 
-const CAPACITY: usize = 24;
-
-const WIDTH: usize = 16;
-
-const ROOM: usize = 256;
-
 impl RowWalker {
     // A new row walker, as after a begin with no variables.
     pub fn new() -> RowWalker
@@ -24,9 +18,9 @@ impl RowWalker {
     {
         RowWalker {
             vars: 0,
-            room: ROOM,
+            room: 256,
             count: 0,
-            clauses: [Clause::EMPTY; ROOM],
+            clauses: [Clause::EMPTY; 256],
             shown: None,
         }
     }
@@ -40,30 +34,30 @@ pub impl Solver for RowWalker as RowWalkerSolver {
     ghost bounded = { bounded };
 
     fn capacity(&self) -> usize {
-        CAPACITY
+        24
     }
 
     fn width(&self) -> usize {
-        WIDTH
+        16
     }
 
     fn full_room(&self) -> usize {
-        ROOM
+        self.clauses.len()
     }
 
     fn begin(&mut self, vars: usize) -> Result<(), Refusal> {
-        if vars > CAPACITY {
+        if vars > self.capacity() {
             return Err(Refusal::TooManyVariables);
         }
         self.vars = vars;
         self.count = 0;
-        self.room = ROOM;
+        self.room = self.full_room();
         self.shown = None;
         Ok(())
     }
 
     fn add(&mut self, clause: &[i32]) -> Result<(), Refusal> {
-        if clause.len() > WIDTH {
+        if clause.len() > self.width() {
             return Err(Refusal::TooLong);
         }
         if !all_named(self.vars, clause) {

@@ -13,8 +13,6 @@ use solver::Solver;
 use solver::all_named;
 use solver::price;
 
-const WIDTH: usize = 16;
-
 // The full room over a solver.
 fn full_over<S: Solver>(below: &S) -> usize
     ensures { λ r. ⌜ r ≡ sizes-over (S·Solver .meaning (now (below .entry)) .sizes) .full ⌝ }
@@ -52,7 +50,7 @@ pub impl<S: Solver> Solver for Splitter<S> as SplitterSolver {
     }
 
     fn width(&self) -> usize {
-        WIDTH
+        16
     }
 
     fn full_room(&self) -> usize {
@@ -71,7 +69,7 @@ pub impl<S: Solver> Solver for Splitter<S> as SplitterSolver {
     }
 
     fn add(&mut self, clause: &[i32]) -> Result<(), Refusal> {
-        if clause.len() > WIDTH {
+        if clause.len() > self.width() {
             return Err(Refusal::TooLong);
         }
         if !all_named(self.vars, clause) {

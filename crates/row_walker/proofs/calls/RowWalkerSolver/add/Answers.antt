@@ -41,7 +41,7 @@ returns c =
     let fits : price (length (c .args .clause .now)) ≤ w .room = omega arith in
     let same = allowed-alike (w .vars) (v .vars) (w .count + 1) (v .count) (set (w .clauses) (w .count) (c .of .result)) (v .clauses) (c .keep .ensures .vars) (c .keep .ensures .count) (c .keep .ensures .clauses) in
     record {
-      refused = add-accepted (stands w) (c .args .clause .now) (c .if-clause-gt-WIDTH .left) known fits;
+      refused = add-accepted (stands w) (c .args .clause .now) (omega (arith, c .if-clause-width .left, c .width .ensures)) known fits;
       cases = record {
         sizes = refl;
         vars = c .keep .ensures .vars;

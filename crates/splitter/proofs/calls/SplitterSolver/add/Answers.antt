@@ -33,7 +33,7 @@ charge-requires g c κs =
     let w = c .args .self .now in
     let b = g .S·Solver .bounded (w .below) (c .pre .0) in
     let s = c .pre .1 in
-    record { fits = omega (arith, s .enough, b .capacity, c .if-clause-gt-WIDTH .left); paid = c .if-price-self .left }
+    record { fits = omega (arith, s .enough, b .capacity, c .if-clause-width .left, c .width .ensures); paid = c .if-price-self .left }
 
 pub returns : need.returns
 returns g c =
@@ -49,7 +49,7 @@ returns g c =
     let fits : price (length xs) ≤ w .account .room = omega (arith, left, cost) in
     let after = c .charge .last .self in
     record {
-      refused = add-accepted (over b (w .vars) (w .account .room)) xs (c .if-clause-gt-WIDTH .left) known fits;
+      refused = add-accepted (over b (w .vars) (w .account .room)) xs (omega (arith, c .if-clause-width .left, c .width .ensures)) known fits;
       cases = record {
         sizes = ap sizes-over (split .sizes);
         vars = refl;
