@@ -12,7 +12,7 @@ use super::clause::Clause;
 
 impl RowWalker {
     // Puts one clause more in use, for a price.
-    pub fn keep(&mut self, clause: Clause, price: usize)
+    pub(crate) fn keep(&mut self, clause: Clause, price: usize)
         requires paid { ⌜ 1 ≤ price ⌝ ∗ ⌜ price ≤ now self .room ⌝ }
         requires inside { ⌜ all (within (now self .vars)) (take (now self .count + 1) (set (now self .clauses) (now self .count) clause)) ≡ true ⌝ }
         ensures vars { λ _. ⌜ now (self .exit) .vars ≡ now (self .entry) .vars ⌝ }
@@ -29,7 +29,7 @@ impl RowWalker {
     }
 
     // Shows the row found, if any, and says whether there is one.
-    pub fn show(&mut self, found: Option<u32>) -> bool
+    pub(crate) fn show(&mut self, found: Option<u32>) -> bool
         ensures answer { λ r. ⌜ r ≡ isSome found ⌝ }
         ensures shown { λ _. ⌜ now (self .exit) .shown ≡ found ⌝ }
         ensures vars { λ _. ⌜ now (self .exit) .vars ≡ now (self .entry) .vars ⌝ }

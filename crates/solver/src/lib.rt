@@ -8,3 +8,5 @@ pub use questions::all_named;
 pub use questions::is_named;
 pub use questions::price;
 pub use refusal::Refusal;
+pub use refusal::RefusalDebug;
+pub use refusal::RefusalPartialEq;
