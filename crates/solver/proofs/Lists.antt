@@ -6,7 +6,7 @@ use Prim.Native.Nat.{ℕ, _+_, _<_, zero, suc}
 use native.Mathlib.Nat.{le-of-suc-le-suc, not-suc-le-zero}
 use lib.ListN.{length, take, getD, set}
 use Rattle.std.proofs.shelf.Lists.{take-more, take-more-set}
-use Rattle.std.proofs.shelf.Tests.{and-from, and-parts, and-left, and-right, or-from, or-left, or-right, or-parts}
+use Rattle.std.proofs.shelf.Tests.{and-from, and-parts, and-left, and-right}
 use Rattle.solver.specs.Lists.{all, any}
 
 module _ {X : Type 0} (p : X → Bool) where
@@ -38,10 +38,6 @@ module _ {X : Type 0} (p : X → Bool) where
   pub all-more : (xs : List X) (i : ℕ) (d : X) → i < length xs → all p (take i xs) ≡ true → p (getD xs i d) ≡ true → all p (take (i + 1) xs) ≡ true
   all-more xs i d l h t = rw (take-more xs i d l, all-append) (and-from _ _ h (and-from _ _ t refl))
 
-  -- one element more does not pass either
-  pub any-more : (xs : List X) (i : ℕ) (d : X) → i < length xs → any p (take i xs) ≡ false → p (getD xs i d) ≡ false → any p (take (i + 1) xs) ≡ false
-  any-more xs i d l h t = rw (take-more xs i d l, any-append) (or-from _ _ h (or-from _ _ t refl))
-
   -- where all pass, the one at i does
   pub all-at : (xs : List X) (i : ℕ) (d : X) → i < length xs → all p xs ≡ true → p (getD xs i d) ≡ true
   all-at [] i d l h = absurd (not-suc-le-zero l)
@@ -53,12 +49,6 @@ module _ {X : Type 0} (p : X → Bool) where
   all-fails [] i d l h = absurd (not-suc-le-zero l)
   all-fails (x ∷ xs) zero d l h = and-left _ _ h
   all-fails (x ∷ xs) (suc i) d l h = and-right (p x) _ (all-fails xs i d (le-of-suc-le-suc l) h)
-
-  -- the one at i passes, so some does
-  pub any-passes : (xs : List X) (i : ℕ) (d : X) → i < length xs → p (getD xs i d) ≡ true → any p xs ≡ true
-  any-passes [] i d l h = absurd (not-suc-le-zero l)
-  any-passes (x ∷ xs) zero d l h = or-left _ _ h
-  any-passes (x ∷ xs) (suc i) d l h = or-right (p x) _ (any-passes xs i d (le-of-suc-le-suc l) h)
 
   -- one element more, written behind the first i
   pub all-written : (xs : List X) (i : ℕ) (y : X) → i < length xs → all p (take i xs) ≡ true → p y ≡ true → all p (take (i + 1) (set xs i y)) ≡ true

@@ -1,21 +1,16 @@
--- A call to which each question is answered with a yes is not refused, and then did its work.
+-- A call to which each question is answered with a yes is not refused.
 use mathlib.Core.Bool.{true}
 use mathlib.Core.List.{List}
-use mathlib.Core.Path.{_≡_, sym, ap, _∙_}
+use mathlib.Core.Path.{_≡_, sym, _∙_}
 use Prim.Native.Nat.{ℕ, _≤_}
 use lib.IntN.{ℤ}
 use lib.ListN.{length}
-use Rattle.std.proofs.shelf.Tests.{cond-true, le-leb, true≢false}
-use Rattle.std.specs.Options.{isSome}
-use Rattle.std.specs.Results.{Cases}
+use Rattle.std.proofs.shelf.Tests.{cond-true, le-leb}
 use Rattle.std.specs.declared.option.Option.{Option}
 use Rattle.std.specs.declared.option.Option.the-variants.{None}
-use Rattle.std.specs.declared.result.Result.{Result}
-use Rattle.std.specs.declared.result.Result.the-variants.{Ok, Err}
-use Rattle.solver.specs.declared.refusal.Refusal.{Refusal}
 use Rattle.solver.specs.Rows.{all-named, price}
 use Rattle.solver.specs.Meaning.{Meaning}
-use Rattle.solver.specs.Refusals.{refusal, begin-refusal, add-refusal, solve-refusal}
+use Rattle.solver.specs.Refusals.{begin-refusal, add-refusal, solve-refusal}
 
 pub begin-accepted : (m : Meaning) (v : ℕ) → v ≤ m .sizes .capacity → None ≡ begin-refusal m v
 begin-accepted m v h = sym (cond-true _ _ _ (le-leb _ _ h))
@@ -25,8 +20,3 @@ add-accepted m c w k p = sym (cond-true _ _ _ (le-leb _ _ w) ∙ cond-true _ _ _
 
 pub solve-accepted : (m : Meaning) (a : List ℤ) → all-named (m .vars) a ≡ true → None ≡ solve-refusal m a
 solve-accepted m a k = sym (cond-true _ _ _ k)
-
--- a call that was not refused did its work
-pub done : (r : Result (Unit {0}) Refusal) (P : Type 0) (Q : Refusal → Type 0) → refusal r ≡ None → Cases r (λ _. P) Q → P
-done (Ok u) P Q h p = p
-done (Err e) P Q h p = absurd (true≢false (ap isSome h))

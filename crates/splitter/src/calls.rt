@@ -1,7 +1,7 @@
 // The calls of a splitter.
 ghost use mathlib.Core.Path.{_≡_};
-ghost use Rattle.solver.specs.Meaning.{New};
-ghost use Rattle.splitter.specs.Sizes.{sizes-over};
+ghost use Rattle.solver.specs.Meaning.{Begun, New};
+ghost use Rattle.splitter.specs.Sizes.{full-over, sizes-over};
 ghost use Rattle.splitter.specs.Stands.{over, bounded, Sound};
 use super::Splitter;
 use super::account::Account;
@@ -15,7 +15,7 @@ use solver::price;
 
 // The full room over a solver.
 fn full_over<S: Solver>(below: &S) -> usize
-    ensures { λ r. ⌜ r ≡ sizes-over (S·Solver .meaning (now (below .entry)) .sizes) .full ⌝ }
+    ensures { λ r. ⌜ r ≡ full-over (S·Solver .meaning (now (below .entry)) .sizes) ⌝ }
 {
     below.full_room().min(below.capacity() / 2)
 }
@@ -24,8 +24,9 @@ impl<S: Solver> Splitter<S> {
     // Lays a splitter over a solver, which it begins.
     pub fn over(mut below: S) -> Splitter<S>
         requires { ⌜ S·Solver .sound below ⌝ }
-        ensures fresh { λ r. ⌜ New (over (S·Solver .meaning (r .below)) (r .vars) (r .account .room)) ⌝ }
+        ensures new { λ r. ⌜ New (over (S·Solver .meaning (r .below)) (r .vars) (r .account .room)) ⌝ }
         ensures sizes { λ r. ⌜ over (S·Solver .meaning (r .below)) (r .vars) (r .account .room) .sizes ≡ sizes-over (S·Solver .meaning below .sizes) ⌝ }
+        ensures begun { λ r. ⌜ Begun (S·Solver .meaning below) (full-over (S·Solver .meaning below .sizes)) (S·Solver .meaning (r .below)) ⌝ }
         ensures sound { λ r. ⌜ S·Solver .sound (r .below) × Sound (S·Solver .meaning (r .below)) (r .vars) (r .account .fresh) (r .account .room) ⌝ }
     {
         let full = full_over(&below);

@@ -1,5 +1,6 @@
 -- The solver below takes the begin, and the splitter stands for what it then is.
-use mathlib.Core.Path.{_≡_, refl, ap, sym, _∙_}
+use mathlib.Core.Path.{_≡_, refl, ap, sym, subst, _∙_}
+use Prim.Native.Nat.{ℕ}
 use native.Mathlib.Omega.{arith}
 use Rattle.solver.specs.Meaning.{Begun}
 use Rattle.solver.proofs.Refusals.{begin-accepted}
@@ -22,8 +23,9 @@ returns g c =
     let none = c .of .ensures .fresh in
     let all = c .of .ensures .room in
     record {
-      fresh = record { sizes = refl; vars = refl; every = λ row. (row, (λ v _ _. refl), h .every row); room = all ∙ e ∙ same; shown = h .shown };
+      new = record { sizes = refl; vars = refl; every = λ row. (row, (λ v _ _. refl), h .every row); room = all ∙ e ∙ same; shown = h .shown };
       sizes = ap sizes-over (h .sizes);
+      begun = subst (λ (v : ℕ). Begun b v n) e h;
       sound = (
         c .begin-taken .ensures .sound,
         record {
