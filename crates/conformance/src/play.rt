@@ -1,5 +1,4 @@
 // Plays a script to a solver, beside a truth table.
-ghost use mathlib.Core.Path.{_≡_};
 use super::model::Model;
 use super::script::Call;
 use super::script::Script;

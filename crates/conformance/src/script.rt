@@ -1,5 +1,4 @@
 // Pseudo-random calls: good ones, and ones that each question is to refuse.
-ghost use mathlib.Core.Path.{_≡_};
 ghost use Prim.Native.Nat.{_<_, _≤_};
 
 #[derive(Clone, Copy)]

@@ -2,15 +2,15 @@
 use mathlib.Core.Bool.{Bool, true, false, not, _&&_, _||_}
 use mathlib.Core.Logic.{_⊎_, inl, inr, ⊎-elim}
 use mathlib.Core.Path.{_≡_, refl, ap, sym, _∙_}
-use Prim.Native.Nat.{ℕ, zero, suc, _+_, _-_, _*_, _/_, _%_, _^_, _<_, _≤_, min, max}
+use Prim.Native.Nat.{ℕ, zero, suc, _+_, _-_, _*_, _/_, _%_, _^_, _<_, min}
 use native.Mathlib.Nat.{pow-suc}
 use native.Mathlib.Omega.{arith}
 use lib.Bits.{bitAnd, bitOr, and-step, or-step, and-zero-r, or-zero-r}
 use lib.Dec.{eqb}
 use lib.Pow.{shr-shr}
-use Rattle.std.proofs.shelf.Tests.{eq-eqb, ne-eqb, eqb-true, eqb-false, cases-eq}
+use Rattle.std.proofs.shelf.Tests.{eq-eqb, ne-eqb, cases-eq}
 use Rattle.solver.specs.Rows.{Row}
-use Rattle.row_walker.specs.Masks.{odd, row-of, inverse, meets}
+use Rattle.row_walker.specs.Masks.{odd, inverse, meets}
 
 -- the bits of n stand for the variables after v in the row
 abbrev pub Bits-of : ℕ → ℕ → Row → Type 0

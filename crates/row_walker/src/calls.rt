@@ -1,7 +1,5 @@
 // The calls of a row walker.
-ghost use mathlib.Core.Path.{_≡_};
 ghost use Rattle.solver.specs.Meaning.{New};
-ghost use Rattle.row_walker.specs.Masks.{row-of};
 ghost use Rattle.row_walker.specs.Stands.{stands, bounded};
 use super::RowWalker;
 use super::clause::Clause;

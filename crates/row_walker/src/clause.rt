@@ -1,7 +1,6 @@
 // Clauses as masks: bit v - 1 stands for variable v.
 ghost use mathlib.Core.Path.{_≡_};
 ghost use mathlib.Core.Bool.{true, not, _||_};
-ghost use mathlib.Core.List.{[], _∷_};
 ghost use Prim.Native.Nat.{ℕ, _≤_};
 ghost use Rattle.solver.specs.Rows.{Row, named, all-named, holds};
 ghost use Rattle.row_walker.specs.Masks.{row-of, inverse, clause-true, within, Means};

@@ -1,8 +1,8 @@
 -- One clause more of a list.
-use mathlib.Core.Bool.{Bool, true, false, cond, _&&_}
+use mathlib.Core.Bool.{Bool, true, false}
 use mathlib.Core.List.{List, [], _∷_, _++_}
 use mathlib.Core.Path.{_≡_, refl, ap, sym, _∙_}
-use Prim.Native.Nat.{ℕ, suc, _+_, _-_, _<_, _≤_}
+use Prim.Native.Nat.{ℕ, suc, _+_, _-_, _<_}
 use native.Mathlib.Omega.{arith}
 use native.Mathlib.Numerals.{add-one}
 use denote.Ref.{RefT}
@@ -16,7 +16,7 @@ use Rattle.std.specs.Options.{isSome}
 use Rattle.std.specs.declared.option.Option.{Option}
 use Rattle.std.specs.declared.option.Option.the-variants.{Some, None}
 use Rattle.solver.specs.Rows.{Row, some-true, all-named, price}
-use Rattle.solver.specs.Meaning.{Meaning, Sizes, Added}
+use Rattle.solver.specs.Meaning.{Meaning, Added}
 use Rattle.solver.specs.Refusals.{asked, add-refusal}
 use Rattle.solver.proofs.Lists.{all-append}
 use Rattle.satisfy.specs.Clauses.{Clauses, every-true, prices, adds-refusal, Narrowed}
@@ -38,9 +38,6 @@ narrowed-push m n k cs c h a =
       each = λ row p e. let q = and-parts (every-true row cs) _ (sym (split row) ∙ e) in a .each row (h .each row p (q .0)) (and-parts (some-true row (c .now)) _ (q .1) .0);
       room = omega arith;
     }
-
-pub narrowed-none : (m : Meaning) → Narrowed m [] m
-narrowed-none m = record { sizes = refl; vars = refl; only = λ row p. (p, refl); each = λ row p e. p; room = omega arith }
 
 pub narrowed-more : (m n k : Meaning) (cs : Clauses) (i : ℕ) (d : RefT (List ℤ)) → i < length cs → Narrowed m (take i cs) n → Added n (getD cs i d .now) k → Narrowed m (take (i + 1) cs) k
 narrowed-more m n k cs i d l h a = rw (take-more cs i d l) (narrowed-push m n k (take i cs) (getD cs i d) h a)

@@ -5,7 +5,7 @@
 --   adds-refusal     the first question that one of them is answered with a no, if any, the room falling clause by clause
 --   Narrowed         what adding them all makes of a meaning
 --   Partly           what a refusal in between leaves: the clauses before the refused one are added
-use mathlib.Core.Bool.{Bool, true, cond}
+use mathlib.Core.Bool.{Bool, true}
 use mathlib.Core.List.{List, [], _∷_}
 use mathlib.Core.Path.{_≡_}
 use Prim.Native.Nat.{ℕ, _+_, _-_, _<_}

@@ -1,13 +1,13 @@
 -- Literals that name variables in 1 to vars, in rows that agree on these.
-use mathlib.Core.Bool.{Bool, true, false, not, _&&_, _||_}
+use mathlib.Core.Bool.{true, not}
 use mathlib.Core.List.{List, [], _∷_}
-use mathlib.Core.Path.{_≡_, refl, ap, sym, _∙_}
-use Prim.Native.Nat.{ℕ, _≤_, suc}
+use mathlib.Core.Path.{_≡_, refl, ap, _∙_}
+use Prim.Native.Nat.{ℕ, _-_, _≤_, suc}
 use native.Mathlib.Omega.{arith}
+use lib.Dec.{leb}
 use lib.IntN.{ℤ, pos, negsuc, natAbs}
-use Rattle.std.proofs.shelf.Tests.{and-from, and-parts, leb-true, le-leb}
-use Rattle.solver.specs.Lists.{all, any}
-use Rattle.solver.specs.Rows.{Row, Agree, holds, named, all-named, some-true, all-true}
+use Rattle.std.proofs.shelf.Tests.{and-from, and-parts, leb-true, leb-false, le-leb, cond-both}
+use Rattle.solver.specs.Rows.{Row, Agree, holds, named, all-named, some-true, all-true, price}
 use Rattle.solver.proofs.Lists.{all-weaker}
 
 pub named-up : (v w : ℕ) → v ≤ w → (x : ℤ) → named v x ≡ true → named w x ≡ true
@@ -30,3 +30,7 @@ all-true-agree vars a b g (x ∷ xs) h = let r = and-parts (named vars x) _ h in
 
 pub agree-through : (f g : ℕ) (a b c : Row) → f ≤ g → Agree f a b → Agree g b c → Agree f a c
 agree-through f g a b c l p q k low high = p k low high ∙ q k low (omega arith)
+
+-- every clause costs something
+pub price-positive : (n : ℕ) → 1 ≤ price n
+price-positive n = cond-both (leb n 3) 1 (n - 2) (λ p. 1 ≤ p) (λ e. omega arith) (λ e. omega (arith, leb-false n 3 e))

@@ -2,12 +2,12 @@
 use mathlib.Core.Bool.{Bool, true, false}
 use mathlib.Core.List.{List}
 use mathlib.Core.Path.{_≡_, refl, ap, sym, _∙_}
-use Prim.Native.Nat.{ℕ, _+_, _≤_}
+use Prim.Native.Nat.{ℕ}
 use native.Mathlib.Omega.{arith}
 use lib.IntN.{ℤ}
 use Rattle.std.specs.declared.option.Option.{Option}
 use Rattle.std.specs.declared.option.Option.the-variants.{Some, None}
-use Rattle.solver.specs.Rows.{Row, Agree, all-named, all-true}
+use Rattle.solver.specs.Rows.{Row, all-named}
 use Rattle.solver.specs.Meaning.{Meaning, Kept, Answered, Solved}
 use Rattle.solver.proofs.Rows.{all-named-up, all-true-agree}
 use Rattle.splitter.specs.Sizes.{full-over, sizes-over}

@@ -5,7 +5,7 @@ use lib.ListN.{length, take, drop}
 use lib.Seq.{take-all, drop-length}
 use Rattle.std.proofs.shelf.Results.{err-from-errBy}
 use Rattle.satisfy.specs.Clauses.{Narrowed, adds-refusal}
-use Rattle.satisfy.proofs.Adding.{narrowed-none, narrowed-more, adds-stop, adds-more}
+use Rattle.satisfy.proofs.Adding.{narrowed-more, adds-stop, adds-more}
 use Rattle.satisfy.proofs.add_all.Needs as need
 
 pub returns-in-Break-add : need.returns-in-Break-add

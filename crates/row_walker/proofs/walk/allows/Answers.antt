@@ -1,6 +1,5 @@
 -- One clause more is true, or one that is not ends the walk.
-use mathlib.Core.Bool.{true}
-use mathlib.Core.Path.{_≡_, sym, ap, _∙_}
+use mathlib.Core.Path.{sym, _∙_}
 use lib.Seq.{take-all}
 use Rattle.solver.proofs.Lists.{all-more, all-fails, all-at}
 use Rattle.row_walker.specs.declared.clause.Clause.{Clause}

@@ -2,7 +2,6 @@
 use borrow.Author.Count.{below-more}
 use mathlib.Core.Bool.{true}
 use mathlib.Core.Path.{_≡_, sym, _∙_}
-use Prim.Native.Nat.{ℕ}
 use Rattle.std.proofs.shelf.Tests.{both-ways}
 use Rattle.solver.specs.Lists.{all}
 use Rattle.solver.specs.Rows.{all-true}

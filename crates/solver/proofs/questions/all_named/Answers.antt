@@ -1,6 +1,6 @@
 -- One literal more is named, or one that is not ends the walk.
 use borrow.Author.Needs.{needs}
-use mathlib.Core.Path.{_≡_, sym}
+use mathlib.Core.Path.{sym}
 use lib.ListN.{getD}
 use lib.IntN.{pos}
 use lib.Seq.{take-all}

@@ -1,23 +1,20 @@
 -- Each three takes one literal more off the chain.
 use borrow.Author.Needs.{needs}
-use mathlib.Core.Bool.{true}
-use mathlib.Core.List.{List, [], _∷_}
-use mathlib.Core.Path.{_≡_, refl, ap, sym, subst, _∙_}
-use Prim.Native.Nat.{ℕ, _+_, _-_, _<_, _≤_}
+use mathlib.Core.Path.{_≡_, refl, ap, sym, _∙_}
+use Prim.Native.Nat.{_+_, _-_, _≤_}
 use native.Mathlib.Omega.{arith}
 use lib.Dec.{lit≤}
-use lib.IntN.{ℤ, pos, negℤ}
+use lib.IntN.{pos}
 use lib.ListN.{length, drop, getD}
 use mir.Syntax.{w32}
-use mir.Val.{SFits, toZ, ofZ}
+use mir.Val.{SFits}
 use Rattle.std.proofs.shelf.Signed.{toZ-ofZ}
 use Rattle.std.proofs.shelf.Tests.{and-from, cond-false, lt-leb}
-use Rattle.solver.specs.Rows.{Row, named, holds}
-use Rattle.solver.specs.Meaning.{Added}
+use Rattle.solver.specs.Rows.{named, holds}
 use Rattle.solver.proofs.Lists.{all-at}
 use Rattle.solver.proofs.Rows.{named-up}
-use Rattle.splitter.specs.Chains.{chain, in-threes}
-use Rattle.splitter.proofs.Chaining.{Partly, partly-none, partly-more, partly-all, chain-first, chain-step, chain-last, named-positive, named-negation}
+use Rattle.splitter.specs.Chains.{chain}
+use Rattle.splitter.proofs.Chaining.{partly-none, partly-more, partly-all, chain-first, chain-step, chain-last, named-positive, named-negation}
 use Rattle.splitter.proofs.threes.add_chain.Needs as need
 
 pub loop-i-holds : need.loop-i-holds

@@ -1,6 +1,4 @@
 -- A short clause is taken as it is, and a long one in threes.
-use mathlib.Core.Bool.{true}
-use mathlib.Core.Path.{_≡_}
 use Prim.Native.Nat.{_≤_}
 use native.Mathlib.Omega.{arith}
 use lib.ListN.{length}

@@ -1,15 +1,12 @@
 -- The clause joins those in use, and says there what its literals say.
-use borrow.Author.Needs.{needs}
-use mathlib.Core.Bool.{true}
-use mathlib.Core.Path.{_≡_, refl, ap, sym, _∙_}
+use mathlib.Core.Path.{refl, ap, sym, _∙_}
 use Prim.Native.Nat.{_+_, _<_, _≤_}
 use native.Mathlib.Omega.{arith}
 use lib.ListN.{length, set}
-use Rattle.std.proofs.shelf.Ways.{tells}
 use Rattle.std.specs.Options.{mapped}
-use Rattle.solver.specs.Rows.{Row, price}
+use Rattle.solver.specs.Rows.{price}
 use Rattle.solver.proofs.Lists.{all-written, all-written-parts}
-use Rattle.solver.proofs.Rows.{all-named-up}
+use Rattle.solver.proofs.Rows.{all-named-up, price-positive}
 use Rattle.solver.proofs.Refusals.{add-accepted}
 use Rattle.row_walker.specs.Stands.{stands}
 use Rattle.row_walker.specs.Masks.{row-of, within, clause-true}
@@ -24,10 +21,10 @@ of-requires c κs =
 pub keep-requires : need.keep-requires
 keep-requires c κs =
     let w = c .args .self .now in
-    let there : w .count < length (w .clauses) = grind (arith, tells) in
+    let there : w .count < length (w .clauses) = omega (arith, price-positive (length (c .args .clause .now)), c .price-price .ensures, c .if-price-self .left) in
     let means = c .of .ensures (w .vars) (w .ok .0) (sym (c .if-not-all-named .ensures tt)) in
     record {
-      paid = (grind (arith, tells), c .if-price-self .left);
+      paid = (omega (arith, price-positive (length (c .args .clause .now)), c .price-price .ensures, c .if-price-self .left), c .if-price-self .left);
       inside = all-written (within (w .vars)) (w .clauses) (w .count) (c .of .result) there (w .ok .2) (means .inside);
     }
 
@@ -35,7 +32,7 @@ pub returns : need.returns
 returns c =
     let w = c .args .self .now in
     let v = c .keep .last .self in
-    let there : w .count < length (w .clauses) = grind (arith, tells) in
+    let there : w .count < length (w .clauses) = omega (arith, price-positive (length (c .args .clause .now)), c .price-price .ensures, c .if-price-self .left) in
     let known = sym (c .if-not-all-named .ensures tt) in
     let means = c .of .ensures (w .vars) (w .ok .0) known in
     let fits : price (length (c .args .clause .now)) ≤ w .room = omega arith in

@@ -1,8 +1,8 @@
 -- Each literal joins the masks.
 use borrow.Author.Needs.{needs}
 use mathlib.Core.Bool.{true, _||_}
-use mathlib.Core.Path.{_≡_, refl, sym, ap, _∙_}
-use Prim.Native.Nat.{ℕ, zero, suc, _^_, _<_}
+use mathlib.Core.Path.{_≡_, sym, ap, _∙_}
+use Prim.Native.Nat.{_^_}
 use lib.ListN.{getD}
 use lib.IntN.{pos}
 use lib.Seq.{take-all}
@@ -11,7 +11,7 @@ use mir.Val.{SFits}
 use Rattle.std.proofs.shelf.Bits.{pow-pos}
 use Rattle.std.proofs.shelf.Signed.{toZ-ofZ}
 use Rattle.std.proofs.shelf.Tests.{and-from, lt-ltb}
-use Rattle.solver.specs.Rows.{Row, named, holds, some-true}
+use Rattle.solver.specs.Rows.{named, holds}
 use Rattle.solver.proofs.Lists.{all-at, any-next}
 use Rattle.row_walker.specs.Masks.{meets, inverse, clause-true}
 use Rattle.row_walker.proofs.Bits.{meets-none}

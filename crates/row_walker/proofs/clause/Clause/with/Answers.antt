@@ -1,6 +1,6 @@
 -- The bit of the literal's variable joins one of the masks.
-use mathlib.Core.Bool.{true, false, _||_}
-use mathlib.Core.Path.{_≡_, ap, sym, subst, _∙_}
+use mathlib.Core.Bool.{true, false}
+use mathlib.Core.Path.{_≡_, ap, sym, _∙_}
 use Prim.Native.Nat.{ℕ, _-_, _*_, _%_, _^_, _<_}
 use native.Mathlib.Omega.{arith}
 use lib.Bits.{bitOr}
@@ -11,7 +11,7 @@ use mir.Syntax.{w32}
 use Rattle.std.proofs.shelf.Bits.{one-shl}
 use Rattle.std.proofs.shelf.Signed.{toZ-ofZ}
 use Rattle.std.proofs.shelf.Tests.{and-parts, leb-true}
-use Rattle.solver.specs.Rows.{Row, named, holds}
+use Rattle.solver.specs.Rows.{named}
 use Rattle.row_walker.specs.declared.clause.Clause.{Clause}
 use Rattle.row_walker.specs.Masks.{clause-true, within}
 use Rattle.row_walker.proofs.Clauses.{positive-inside, negative-inside, positive-says, negative-says}

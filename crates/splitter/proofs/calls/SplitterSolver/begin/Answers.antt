@@ -1,5 +1,5 @@
 -- The solver below has begun with the variables in use here and all fresh ones.
-use mathlib.Core.Path.{_≡_, refl, ap, sym, _∙_}
+use mathlib.Core.Path.{refl, ap, sym, _∙_}
 use Prim.Native.Nat.{_+_}
 use native.Mathlib.Omega.{arith}
 use Rattle.solver.specs.Meaning.{Begun}
