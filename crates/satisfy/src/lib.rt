@@ -1,7 +1,9 @@
 // How a client uses a solver, proved over every solver: clauses go in, a question is asked, and the row shown is read.
+ghost use mathlib.Core.Bool.{true};
 ghost use mathlib.Core.Path.{_≡_};
 ghost use Prim.Native.Nat.{_+_, _^_, _<_};
 ghost use Rattle.std.specs.Results.{Cases};
+ghost use Rattle.std.specs.Vec.{made};
 ghost use Rattle.solver.specs.Refusals.{refusal};
 ghost use Rattle.satisfy.specs.Clauses.{Narrowed, Partly, adds-refusal};
 ghost use Rattle.satisfy.specs.Questions.{read-at, Read, Satisfied, satisfy-refusal};
@@ -63,4 +65,16 @@ pub fn satisfy<S: Solver>(
         read_row(solver, row);
     }
     Ok(answer)
+}
+
+// Whether two solvers give the same answer: any two do that take the question.
+pub fn answer_alike<A: Solver, B: Solver>(first: &mut A, second: &mut B, vars: usize, clauses: &[&[i32]], assumed: &[i32]) -> Result<bool, Refusal>
+    requires first { ⌜ A·Solver .sound (now first) ⌝ }
+    requires second { ⌜ B·Solver .sound (now second) ⌝ }
+    ensures { λ r. ⌜ made r (λ alike. alike ≡ true) ⌝ }
+{
+    let mut unread = [false; 0];
+    let one = satisfy(first, vars, clauses, assumed, &mut unread)?;
+    let other = satisfy(second, vars, clauses, assumed, &mut unread)?;
+    Ok(one == other)
 }
