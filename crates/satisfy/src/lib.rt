@@ -68,7 +68,13 @@ pub fn satisfy<S: Solver>(
 }
 
 // Whether two solvers give the same answer: any two do that take the question.
-pub fn answer_alike<A: Solver, B: Solver>(first: &mut A, second: &mut B, vars: usize, clauses: &[&[i32]], assumed: &[i32]) -> Result<bool, Refusal>
+pub fn answer_alike<A: Solver, B: Solver>(
+    first: &mut A,
+    second: &mut B,
+    vars: usize,
+    clauses: &[&[i32]],
+    assumed: &[i32],
+) -> Result<bool, Refusal>
     requires first { ⌜ A·Solver .sound (now first) ⌝ }
     requires second { ⌜ B·Solver .sound (now second) ⌝ }
     ensures { λ r. ⌜ made r (λ alike. alike ≡ true) ⌝ }
