@@ -1,6 +1,6 @@
 // A truth table of up to 10 variables: the plainest solver.
-use solver::Refusal;
 use solver::Solver;
+use solver::SolverFault;
 
 const ROWS: usize = 1024;
 
@@ -70,9 +70,9 @@ impl Model {
         }
     }
 
-    pub fn begin(&mut self, vars: usize) -> Result<(), Refusal> {
+    pub fn begin(&mut self, vars: usize) -> Result<(), SolverFault> {
         if vars > self.capacity {
-            return Err(Refusal::TooManyVariables);
+            return Err(SolverFault::TooManyVariables);
         }
         self.vars = vars;
         self.room = self.full;
@@ -81,12 +81,12 @@ impl Model {
         Ok(())
     }
 
-    pub fn add(&mut self, clause: &[i32]) -> Result<(), Refusal> {
+    pub fn add(&mut self, clause: &[i32]) -> Result<(), SolverFault> {
         if clause.len() > self.width {
-            return Err(Refusal::TooLong);
+            return Err(SolverFault::TooLong);
         }
         if !all_known(self.vars, clause) {
-            return Err(Refusal::UnknownVariable);
+            return Err(SolverFault::UnknownVariable);
         }
         let price = if clause.len() < 4 {
             1
@@ -94,7 +94,7 @@ impl Model {
             clause.len() - 2
         };
         if price > self.room {
-            return Err(Refusal::NoRoom);
+            return Err(SolverFault::NoRoom);
         }
         self.room -= price;
         self.shown = None;
@@ -105,9 +105,9 @@ impl Model {
     }
 
     // Whether some row is wanted; which one a solver shows is open.
-    pub fn solve(&self, assumed: &[i32]) -> Result<bool, Refusal> {
+    pub fn solve(&self, assumed: &[i32]) -> Result<bool, SolverFault> {
         if !all_known(self.vars, assumed) {
-            return Err(Refusal::UnknownVariable);
+            return Err(SolverFault::UnknownVariable);
         }
         for (row, allowed) in self.allowed.iter().enumerate() {
             if *allowed && all_true(row, assumed) {
@@ -126,12 +126,12 @@ impl Model {
         }
     }
 
-    pub fn value(&self, variable: usize) -> Result<bool, Refusal> {
+    pub fn value(&self, variable: usize) -> Result<bool, SolverFault> {
         match self.shown {
             Some(row) if 0 < variable && variable <= self.vars && variable <= 10 => Ok(
                 (row >> (variable - 1)) % 2 == 1,
             ),
-            _ => Err(Refusal::NoValue),
+            _ => Err(SolverFault::NoValue),
         }
     }
 

@@ -3,17 +3,17 @@ use super::model::Model;
 use super::script::Call;
 use super::script::Script;
 use super::tally::Tally;
-use solver::Refusal;
 use solver::Solver;
+use solver::SolverFault;
 
-fn done(result: Result<(), Refusal>) -> u8 {
+fn done(result: Result<(), SolverFault>) -> u8 {
     match result {
         Ok(()) => 2,
         Err(refusal) => refusal.number(),
     }
 }
 
-fn answer(result: Result<bool, Refusal>) -> u8 {
+fn answer(result: Result<bool, SolverFault>) -> u8 {
     match result {
         Ok(false) => 0,
         Ok(true) => 1,
@@ -21,7 +21,7 @@ fn answer(result: Result<bool, Refusal>) -> u8 {
     }
 }
 
-fn value(result: Result<bool, Refusal>) -> u8 {
+fn value(result: Result<bool, SolverFault>) -> u8 {
     match result {
         Ok(false) => 3,
         Ok(true) => 4,
@@ -80,7 +80,7 @@ fn add<S: Solver>(solver: &mut S, model: &mut Model, clause: &[i32], tally: &mut
     ensures { λ _. ⌜ S·Solver .sound (now (solver .exit)) ⌝ }
 {
     let expected = done(model.add(clause));
-    if expected != Refusal::NoRoom.number() || model.full_room() == solver.full_room() {
+    if expected != SolverFault::NoRoom.number() || model.full_room() == solver.full_room() {
         let told = done(solver.add(clause));
         tally.count(told, expected);
         tally.fix(told);

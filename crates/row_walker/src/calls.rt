@@ -4,8 +4,8 @@ ghost use Rattle.row_walker.specs.Stands.{stands, bounded};
 use super::RowWalker;
 use super::clause::Clause;
 use super::walk::first_row;
-use solver::Refusal;
 use solver::Solver;
+use solver::SolverFault;
 use solver::all_named;
 use solver::price;
 
@@ -43,9 +43,9 @@ pub impl Solver for RowWalker as RowWalkerSolver {
         self.clauses.len()
     }
 
-    fn begin(&mut self, vars: usize) -> Result<(), Refusal> {
+    fn begin(&mut self, vars: usize) -> Result<(), SolverFault> {
         if vars > self.capacity() {
-            return Err(Refusal::TooManyVariables);
+            return Err(SolverFault::TooManyVariables);
         }
         self.vars = vars;
         self.count = 0;
@@ -54,35 +54,35 @@ pub impl Solver for RowWalker as RowWalkerSolver {
         Ok(())
     }
 
-    fn add(&mut self, clause: &[i32]) -> Result<(), Refusal> {
+    fn add(&mut self, clause: &[i32]) -> Result<(), SolverFault> {
         if clause.len() > self.width() {
-            return Err(Refusal::TooLong);
+            return Err(SolverFault::TooLong);
         }
         if !all_named(self.vars, clause) {
-            return Err(Refusal::UnknownVariable);
+            return Err(SolverFault::UnknownVariable);
         }
         let price = price(clause.len());
         if price > self.room {
-            return Err(Refusal::NoRoom);
+            return Err(SolverFault::NoRoom);
         }
         self.keep(Clause::of(clause), price);
         Ok(())
     }
 
-    fn solve(&mut self, assumed: &[i32]) -> Result<bool, Refusal> {
+    fn solve(&mut self, assumed: &[i32]) -> Result<bool, SolverFault> {
         if !all_named(self.vars, assumed) {
-            return Err(Refusal::UnknownVariable);
+            return Err(SolverFault::UnknownVariable);
         }
         let found = first_row(self.vars, &self.clauses[0..self.count], assumed);
         Ok(self.show(found))
     }
 
-    fn value(&self, variable: usize) -> Result<bool, Refusal> {
+    fn value(&self, variable: usize) -> Result<bool, SolverFault> {
         match self.shown {
             Some(row) if 0 < variable && variable <= self.vars => Ok(
                 (row >> (variable - 1)) % 2 == 1,
             ),
-            _ => Err(Refusal::NoValue),
+            _ => Err(SolverFault::NoValue),
         }
     }
 }

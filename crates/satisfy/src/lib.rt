@@ -7,11 +7,11 @@ ghost use Rattle.std.specs.Vec.{made};
 ghost use Rattle.solver.specs.Refusals.{refusal};
 ghost use Rattle.satisfy.specs.Clauses.{Narrowed, Partly, adds-refusal};
 ghost use Rattle.satisfy.specs.Questions.{read-at, Read, Satisfied, satisfy-refusal};
-use solver::Refusal;
 use solver::Solver;
+use solver::SolverFault;
 
 // Adds clauses in their order, up to the first that is refused.
-pub fn add_all<S: Solver>(solver: &mut S, clauses: &[&[i32]]) -> Result<(), Refusal>
+pub fn add_all<S: Solver>(solver: &mut S, clauses: &[&[i32]]) -> Result<(), SolverFault>
     requires { ⌜ sound (now solver) ⌝ }
     ensures refused { λ r. ⌜ refusal r ≡ adds-refusal (meaning (now (solver .entry)) .sizes) (meaning (now (solver .entry)) .vars) (meaning (now (solver .entry)) .room) (now (clauses .entry)) ⌝ }
     ensures cases { λ r. ⌜ Cases r (λ _. Narrowed (meaning (now (solver .entry))) (now (clauses .entry)) (meaning (now (solver .exit)))) (λ _. Partly (meaning (now (solver .entry))) (now (clauses .entry)) (meaning (now (solver .exit)))) ⌝ }
@@ -52,7 +52,7 @@ pub fn satisfy<S: Solver>(
     clauses: &[&[i32]],
     assumed: &[i32],
     row: &mut [bool],
-) -> Result<bool, Refusal>
+) -> Result<bool, SolverFault>
     requires { ⌜ sound (now solver) ⌝ }
     ensures refused { λ r. ⌜ refusal r ≡ satisfy-refusal (meaning (now (solver .entry)) .sizes) vars (now (clauses .entry)) (now (assumed .entry)) ⌝ }
     ensures cases { λ r. ⌜ Cases r (λ answer. Satisfied vars (now (clauses .entry)) (now (assumed .entry)) (now (row .entry)) answer (now (row .exit))) (λ _. now (row .exit) ≡ now (row .entry)) ⌝ }
@@ -74,7 +74,7 @@ pub fn answer_alike<A: Solver, B: Solver>(
     vars: usize,
     clauses: &[&[i32]],
     assumed: &[i32],
-) -> Result<bool, Refusal>
+) -> Result<bool, SolverFault>
     requires first { ⌜ A·Solver .sound (now first) ⌝ }
     requires second { ⌜ B·Solver .sound (now second) ⌝ }
     ensures { λ r. ⌜ made r (λ alike. alike ≡ true) ⌝ }

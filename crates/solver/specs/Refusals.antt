@@ -16,19 +16,19 @@ use Rattle.std.specs.declared.option.Option.{Option}
 use Rattle.std.specs.declared.option.Option.the-variants.{Some, None}
 use Rattle.std.specs.declared.result.Result.{Result}
 use Rattle.std.specs.declared.result.Result.the-variants.{Ok, Err}
-use Rattle.solver.specs.declared.refusal.Refusal.{Refusal}
-use Rattle.solver.specs.declared.refusal.Refusal.the-variants.{TooManyVariables, UnknownVariable, TooLong, NoRoom, NoValue}
+use Rattle.solver.specs.declared.fault.SolverFault.{SolverFault}
+use Rattle.solver.specs.declared.fault.SolverFault.the-variants.{TooManyVariables, UnknownVariable, TooLong, NoRoom, NoValue}
 use Rattle.solver.specs.Rows.{Row, all-named, price}
 use Rattle.solver.specs.Meaning.{Meaning}
 
-abbrev pub number : Refusal → ℕ
+abbrev pub number : SolverFault → ℕ
 number TooManyVariables = 20
 number UnknownVariable = 21
 number TooLong = 22
 number NoRoom = 23
 number NoValue = 24
 
-abbrev pub refusal : {X : Type 0} → Result X Refusal → Option ℕ
+abbrev pub refusal : {X : Type 0} → Result X SolverFault → Option ℕ
 refusal (Ok x) = None
 refusal (Err e) = Some (number e)
 

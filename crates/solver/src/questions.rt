@@ -2,19 +2,19 @@
 ghost use mathlib.Core.Path.{_≡_};
 ghost use Rattle.solver.specs.Rows.{named, all-named, price as price-of};
 ghost use Rattle.solver.specs.Refusals.{number as number-of};
-use super::Refusal;
+use super::SolverFault;
 
-impl Refusal {
+impl SolverFault {
     // The number by which users know a refusal.
     pub fn number(self) -> u8
         ensures { λ r. ⌜ r ≡ number-of self ⌝ }
     {
         match self {
-            Refusal::TooManyVariables => 20,
-            Refusal::UnknownVariable => 21,
-            Refusal::TooLong => 22,
-            Refusal::NoRoom => 23,
-            Refusal::NoValue => 24,
+            SolverFault::TooManyVariables => 20,
+            SolverFault::UnknownVariable => 21,
+            SolverFault::TooLong => 22,
+            SolverFault::NoRoom => 23,
+            SolverFault::NoValue => 24,
         }
     }
 }

@@ -8,8 +8,8 @@ use super::account::Account;
 use super::below::begin_taken;
 use super::below::solve_taken;
 use super::threes::add_in_threes;
-use solver::Refusal;
 use solver::Solver;
+use solver::SolverFault;
 use solver::all_named;
 use solver::price;
 
@@ -58,9 +58,9 @@ pub impl<S: Solver> Solver for Splitter<S> as SplitterSolver {
         full_over(&self.below)
     }
 
-    fn begin(&mut self, vars: usize) -> Result<(), Refusal> {
+    fn begin(&mut self, vars: usize) -> Result<(), SolverFault> {
         if vars > self.capacity() {
-            return Err(Refusal::TooManyVariables);
+            return Err(SolverFault::TooManyVariables);
         }
         let full = self.full_room();
         begin_taken(&mut self.below, vars + full);
@@ -69,16 +69,16 @@ pub impl<S: Solver> Solver for Splitter<S> as SplitterSolver {
         Ok(())
     }
 
-    fn add(&mut self, clause: &[i32]) -> Result<(), Refusal> {
+    fn add(&mut self, clause: &[i32]) -> Result<(), SolverFault> {
         if clause.len() > self.width() {
-            return Err(Refusal::TooLong);
+            return Err(SolverFault::TooLong);
         }
         if !all_named(self.vars, clause) {
-            return Err(Refusal::UnknownVariable);
+            return Err(SolverFault::UnknownVariable);
         }
         let price = price(clause.len());
         if price > self.account.room {
-            return Err(Refusal::NoRoom);
+            return Err(SolverFault::NoRoom);
         }
         let last = self.vars + self.account.fresh;
         add_in_threes(&mut self.below, clause, last);
@@ -86,16 +86,16 @@ pub impl<S: Solver> Solver for Splitter<S> as SplitterSolver {
         Ok(())
     }
 
-    fn solve(&mut self, assumed: &[i32]) -> Result<bool, Refusal> {
+    fn solve(&mut self, assumed: &[i32]) -> Result<bool, SolverFault> {
         if !all_named(self.vars, assumed) {
-            return Err(Refusal::UnknownVariable);
+            return Err(SolverFault::UnknownVariable);
         }
         Ok(solve_taken(&mut self.below, assumed))
     }
 
-    fn value(&self, variable: usize) -> Result<bool, Refusal> {
+    fn value(&self, variable: usize) -> Result<bool, SolverFault> {
         if variable > self.vars {
-            return Err(Refusal::NoValue);
+            return Err(SolverFault::NoValue);
         }
         self.below.value(variable)
     }

@@ -1,6 +1,6 @@
 // Why a solver refuses a call.
 #[derive(Clone, Copy, PartialEq, Eq, Debug)]
-pub enum Refusal {
+pub enum SolverFault {
     TooManyVariables,
     UnknownVariable,
     TooLong,
