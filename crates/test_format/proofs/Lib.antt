@@ -1,0 +1,5 @@
+pub mod Packed
+pub mod Marked
+pub mod Grouped
+pub mod ReadBack
+pub mod Taken

@@ -1,0 +1,4 @@
+use Rattle.test_format.proofs.log_reads_back.Needs as need
+
+pub returns : need.returns
+returns c = ?

@@ -1,0 +1,4 @@
+use Rattle.test_format.proofs.strikes_last.Needs as need
+
+pub returns : need.returns
+returns c = ?
