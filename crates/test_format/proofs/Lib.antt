@@ -3,3 +3,6 @@ pub mod Marked
 pub mod Grouped
 pub mod ReadBack
 pub mod Taken
+pub mod Cutting
+pub mod Pieces
+pub mod OneOutput

@@ -1,8 +1,9 @@
 -- The laws of records and logs.
 --   Record-reads-back   the record of any test of a circuit is taken, and gives that test
 --   Taken-is-written    bytes that are taken are the record of the test that they give, and this is a test of the circuit
---   Cut                 how pieces cut from a log stand to it
---   Log-is-cut          the pieces of any log are so cut from it
+--   Cut                 pieces cut from a log: joined they are the log again, each has a byte, each but the last is as long as its map
+--                       requires, and no piece is longer
+--   Log-is-cut          the pieces of any log are so cut from it, and there is no other way to cut it
 --   Log-reads-back      records end to end are cut into the same records
 --   Amends-one          amending changes the output named, to what was handed in, and nothing else
 --   Strikes-last        striking undoes the last record, whatever it was
@@ -28,16 +29,21 @@ Record-reads-back = (c : Circuit) (t : Test) → FitsTest c t → decoded c (wri
 abbrev pub Taken-is-written : Type 0
 Taken-is-written = (c : Circuit) (bytes : List ℕ) (t : Test) → all isByte bytes ≡ true → decoded c bytes ≡ Ok t → FitsTest c t × (bytes ≡ written t)
 
+-- so that a record takes at least one byte
+abbrev pub HasSignals : Circuit → Type 0
+HasSignals c = 0 < c .inputs + length (c .outputs)
+
 pub record Cut (c : Circuit) (log : List ℕ) (ps : List (List ℕ)) : Type 0 where
   pub none-lost : joined (λ p. p) ps ≡ log
   pub none-empty : (i : ℕ) → i < length ps → 0 < length (getD ps i [])
   pub whole : (i : ℕ) → i + 1 < length ps → length (getD ps i []) ≡ required c (getD ps i [])
+  pub none-longer : HasSignals c → (i : ℕ) → i < length ps → length (getD ps i []) ≤ required c (getD ps i [])
 
 abbrev pub Log-is-cut : Type 0
-Log-is-cut = (c : Circuit) (log : List ℕ) → Cut c log (pieces c log)
+Log-is-cut = (c : Circuit) (log : List ℕ) → Cut c log (pieces c log) × ((ps : List (List ℕ)) → HasSignals c → Cut c log ps → ps ≡ pieces c log)
 
 abbrev pub Log-reads-back : Type 0
-Log-reads-back = (c : Circuit) (ts : List Test) → 0 < c .inputs + length (c .outputs) → All (FitsTest c) ts → pieces c (joined written ts) ≡ map written ts
+Log-reads-back = (c : Circuit) (ts : List Test) → HasSignals c → All (FitsTest c) ts → pieces c (joined written ts) ≡ map written ts
 
 abbrev pub Amends-one : Type 0
 Amends-one = (ts us : List Test) (k o n : ℕ) → amended ts k o n ≡ Ok us → Amended ts us k o n
