@@ -6,3 +6,5 @@ pub mod Taken
 pub mod Cutting
 pub mod Pieces
 pub mod OneOutput
+pub mod BitAt
+pub mod Filling
