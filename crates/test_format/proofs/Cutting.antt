@@ -8,7 +8,7 @@ use native.Mathlib.Omega.{arith}
 use lib.Dec.{eqb}
 use lib.ListN.{length, take, drop, length-take, length-drop}
 use Rattle.std.proofs.shelf.Lists.{take-at, drop-at, take-all, drop-all, take-append-drop, length-take-le, append-nil}
-use Rattle.std.proofs.shelf.Tests.{eqb-false, eqb-true, ne-eqb, cond-false}
+use Rattle.std.proofs.shelf.Tests.{eqb-false, eqb-true, eq-eqb, ne-eqb, cond-true, cond-false}
 use Rattle.circuit.specs.Circuits.{Circuit}
 use Rattle.test_format.specs.Packing.{bytesFor}
 use Rattle.test_format.specs.Records.{mapOf, ones}
@@ -76,3 +76,17 @@ first-is c p rest sig (inr e) =
     let n : length (p ++ rest) ≤ required c (p ++ rest) = subst (λ (l : List ℕ). length l ≤ required c l) (sym whole) (e .1) in
     (cond-false _ (p ++ rest) (take (required c (p ++ rest)) (p ++ rest)) no ∙ take-all (required c (p ++ rest)) (p ++ rest) n ∙ whole,
      cond-false _ [] (drop (required c (p ++ rest)) (p ++ rest)) no ∙ drop-all (required c (p ++ rest)) (p ++ rest) n ∙ sym (e .0))
+
+-- ── cut off by what the map requires, or not cut ──
+pub first-part : (c : Circuit) (log : List ℕ) (n : ℕ) → n ≡ required c log → (n ≡ 0 → ⊥) → (take n log ≡ firstRecord c log) × (drop n log ≡ afterFirst c log)
+first-part c log n e some-byte =
+    let some : eqb (required c log) 0 ≡ false = ne-eqb (required c log) 0 (λ z. some-byte (e ∙ z)) in
+    (ap (λ k. take k log) e ∙ sym (cond-false _ log (take (required c log) log) some), ap (λ k. drop k log) e ∙ sym (cond-false _ [] (drop (required c log) log) some))
+
+pub first-whole : (c : Circuit) (log : List ℕ) (n : ℕ) → n ≡ required c log → (n ≡ 0) ⊎ (length log < n) → (take (length log) log ≡ firstRecord c log) × (drop (length log) log ≡ afterFirst c log)
+first-whole c log n e (inl z) =
+    let none : eqb (required c log) 0 ≡ true = eq-eqb (required c log) 0 (sym e ∙ z) in
+    (take-all (length log) log (omega arith) ∙ sym (cond-true _ log (take (required c log) log) none), drop-all (length log) log (omega arith) ∙ sym (cond-true _ [] (drop (required c log) log) none))
+first-whole c log n e (inr l) =
+    let part = first-part c log n e (λ z. omega arith) in
+    (take-all (length log) log (omega arith) ∙ sym (take-all n log (omega arith)) ∙ part .0, drop-all (length log) log (omega arith) ∙ sym (drop-all n log (omega arith)) ∙ part .1)

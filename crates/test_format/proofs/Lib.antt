@@ -8,3 +8,4 @@ pub mod Pieces
 pub mod OneOutput
 pub mod BitAt
 pub mod Filling
+pub mod Holding

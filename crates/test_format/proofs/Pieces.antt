@@ -119,3 +119,10 @@ first-then-others c (b ∷ log) h =
     let rest = afterFirst c (b ∷ log) in
     let less = first-cut-off c (b ∷ log) h .shorter in
     ap (λ (ps : List (List ℕ)). firstRecord c (b ∷ log) ∷ ps) (more-room (length log) (length rest) c rest (omega arith) (omega arith))
+
+-- ── what a first piece and the rest of a log are known by ──
+pub rest-shorter : (c : Circuit) (log rest : List ℕ) → rest ≡ afterFirst c log → 0 < length log → length rest < length log
+rest-shorter c log rest e h = subst (λ (r : List ℕ). length r < length log) (sym e) (first-cut-off c log h .shorter)
+
+pub cut-pieces : (c : Circuit) (log p rest : List ℕ) → p ≡ firstRecord c log → rest ≡ afterFirst c log → 0 < length log → pieces c log ≡ p ∷ pieces c rest
+cut-pieces c log p rest e f h = first-then-others c log h ∙ ap (λ (q : List ℕ). q ∷ pieces c (afterFirst c log)) (sym e) ∙ ap (λ (r : List ℕ). p ∷ pieces c r) (sym f)
