@@ -9,3 +9,4 @@ pub mod OneOutput
 pub mod BitAt
 pub mod Filling
 pub mod Holding
+pub mod StayFit

@@ -5,9 +5,9 @@ use mathlib.Core.List.{List, [], _∷_, _++_}
 use Prim.Native.Nat.{ℕ, zero, suc, _+_, _*_, _/_, _%_, _^_, _<_, _≤_}
 use native.Mathlib.Omega.{arith}
 use lib.Dec.{eqb, ltb}
-use lib.ListN.{length, take, drop}
+use lib.ListN.{length, take, drop, getD}
 use Rattle.std.proofs.shelf.Lists.{length-append, append-assoc, take-append-le, take-at, drop-at, take-append-drop, length-take-le}
-use Rattle.std.proofs.shelf.Tests.{and-parts, and-from, ltb-true, false≢true}
+use Rattle.std.proofs.shelf.Tests.{and-parts, and-from, lt-ltb, ltb-true, false≢true}
 use Rattle.std.proofs.shelf.Ways.{eqb-tells}
 use Rattle.std.proofs.shelf.Bits.{div-below}
 use lib.Dec.{lit<}
@@ -180,3 +180,8 @@ clear-is-packed n g b h z =
     ∙ ap (packInto k) (sym (pad-take n u z) ∙ ap (λ m. pad m (take n u)) (sym long))
     ∙ packInto-pad k (take n u)
     ∙ ap (λ m. packInto (bytesFor m) (take n u)) (sym (length-front n g h))
+
+-- what holds of each byte by its place holds of all
+pub all-bytes : (bytes : List ℕ) → ((i : ℕ) → getD bytes i 0 < 256) → all isByte bytes ≡ true
+all-bytes [] h = refl
+all-bytes (b ∷ bytes) h = and-from (isByte b) (all isByte bytes) (lt-ltb b 256 (h zero)) (all-bytes bytes (λ i. h (suc i)))

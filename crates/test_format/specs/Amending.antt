@@ -5,9 +5,10 @@
 --   amended     the tests after that, or the refusal of it
 --   Amended     this output is as handed in, and nothing else moved
 --   struck      the tests without the last, or the refusal of it
+--   Struck      the last test is no longer held
 use mathlib.Core.Path.{_≡_}
 use mathlib.Core.Bool.{Bool, true, false}
-use mathlib.Core.List.{List, [], _∷_}
+use mathlib.Core.List.{List, [], _∷_, _++_}
 use Prim.Native.Nat.{ℕ, zero, suc, _-_}
 use lib.Dec.{ltb}
 use lib.ListN.{length, set, take}
@@ -58,3 +59,7 @@ pub record Amended (before after : List Test) (k o n : ℕ) : Type 0 where
 
 abbrev pub struck : List Test → Result (List Test) Refusal
 struck ts = ask 15 (ltb 0 (length ts)) (Ok (take (length ts - 1) ts))
+
+pub record Struck (before after : List Test) : Type 0 where
+  pub test : Test
+  pub last : before ≡ after ++ test ∷ []

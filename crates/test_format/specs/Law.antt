@@ -7,6 +7,7 @@
 --   Log-reads-back      records end to end are cut into the same records
 --   Amends-one          amending changes the output named, to what was handed in, and nothing else
 --   Strikes-last        striking undoes the last record, whatever it was
+--   Tests-stay-fit      where the tests held are tests of the circuit, they are so after a record, an amendment or a strike
 use mathlib.Core.Path.{_≡_}
 use mathlib.Core.Bool.{true}
 use mathlib.Core.List.{List, [], _∷_, _++_, map}
@@ -19,7 +20,7 @@ use Rattle.circuit.specs.Lists.{all}
 use Rattle.circuit.specs.Circuits.{Circuit}
 use Rattle.circuit.specs.Tests.{Test, FitsTest}
 use Rattle.test_format.specs.Packing.{isByte}
-use Rattle.test_format.specs.Records.{written, decoded, refused}
+use Rattle.test_format.specs.Records.{written, decoded, recorded, refused}
 use Rattle.test_format.specs.Logs.{required, pieces}
 use Rattle.test_format.specs.Amending.{amended, Amended, struck}
 
@@ -50,3 +51,11 @@ Amends-one = (ts us : List Test) (k o n : ℕ) → amended ts k o n ≡ Ok us �
 
 abbrev pub Strikes-last : Type 0
 Strikes-last = ((ts : List Test) (t : Test) → struck (ts ++ t ∷ []) ≡ Ok ts) × (struck [] ≡ refused 15)
+
+pub record StayFit (c : Circuit) (ts us : List Test) : Type 0 where
+  pub after-record : (bytes : List ℕ) → recorded c ts bytes ≡ Ok us → All (FitsTest c) us
+  pub after-amend : (k o n : ℕ) → amended ts k o n ≡ Ok us → All (FitsTest c) us
+  pub after-strike : struck ts ≡ Ok us → All (FitsTest c) us
+
+abbrev pub Tests-stay-fit : Type 0
+Tests-stay-fit = (c : Circuit) (ts us : List Test) → All (FitsTest c) ts → StayFit c ts us

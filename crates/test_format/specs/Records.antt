@@ -10,6 +10,8 @@
 --   filled        the outputs that a map and the values measured give
 --   given         the test that a record gives
 --   recorded      the tests held after one more record, or the refusal of it
+--   Recorded      one test more is held: one of the circuit, that has these bytes for its record
+use mathlib.Core.Path.{_≡_}
 use mathlib.Core.Bool.{Bool, true, false, not, cond, _&&_}
 use mathlib.Core.List.{List, [], _∷_, _++_, map}
 use Prim.Native.Nat.{ℕ, _+_}
@@ -23,7 +25,7 @@ use Rattle.std.specs.declared.result.Result.the-variants.{Ok, Err}
 use Rattle.refusal.specs.declared.Refusal.{Refusal}
 use Rattle.circuit.specs.Lists.{all}
 use Rattle.circuit.specs.Circuits.{Circuit}
-use Rattle.circuit.specs.Tests.{Test}
+use Rattle.circuit.specs.Tests.{Test, FitsTest}
 use Rattle.test_format.specs.Packing.{unpack, bytesFor, pack}
 
 -- ── from a test to its record ──
@@ -90,3 +92,9 @@ joinedBy ts (Err r) = Err r
 
 abbrev pub recorded : Circuit → List Test → List ℕ → Result (List Test) Refusal
 recorded c ts bytes = ask 11 (ltb (length ts) 32) (joinedBy ts (decoded c bytes))
+
+pub record Recorded (c : Circuit) (before after : List Test) (bytes : List ℕ) : Type 0 where
+  pub test : Test
+  pub last : after ≡ before ++ test ∷ []
+  pub fits : FitsTest c test
+  pub as-written : bytes ≡ written test

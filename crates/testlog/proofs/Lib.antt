@@ -1,1 +1,1 @@
-mod Got
+mod TableItems

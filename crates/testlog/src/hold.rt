@@ -1,6 +1,5 @@
 // The tests that are held: recorded one after another, amended, and struck from the end.
 ghost use mathlib.Core.Path.{_≡_};
-ghost use mathlib.Core.Bool.{cond};
 ghost use mathlib.Core.List.{[], map};
 ghost use lib.ListN.{length};
 ghost use Rattle.std.specs.Finite.{nth};
@@ -8,8 +7,8 @@ ghost use Rattle.std.specs.Options.{mapped};
 ghost use Rattle.std.specs.Results.{errPart};
 ghost use Rattle.std.specs.Vec.{made};
 ghost use Rattle.circuit.specs.Held.{circuitOf};
-ghost use Rattle.test_format.specs.Records.{recorded};
-ghost use Rattle.test_format.specs.Amending.{amended, Amended, struck};
+ghost use Rattle.test_format.specs.Records.{recorded, Recorded};
+ghost use Rattle.test_format.specs.Amending.{amended, Amended, struck, Struck};
 ghost use Rattle.testlog.specs.Held.{testOf, testsOf};
 ghost use Rattle.testlog.specs.Faults.{refusalOf, kept};
 use crate::amend::reading;
@@ -62,6 +61,7 @@ impl TestTable {
     pub fn record(&mut self, circuit: &Circuit, bytes: &[u8]) -> Result<(), RecordFault>
         ensures refused { λ r. ⌜ mapped refusalOf (errPart r) ≡ errPart (recorded (circuitOf (now (circuit .entry))) (testsOf (now (self .entry))) (now (bytes .entry))) ⌝ }
         ensures after { λ _. ⌜ testsOf (now (self .exit)) ≡ kept (testsOf (now (self .entry))) (recorded (circuitOf (now (circuit .entry))) (testsOf (now (self .entry))) (now (bytes .entry))) ⌝ }
+        ensures one { λ r. ⌜ made r (λ _. Recorded (circuitOf (now (circuit .entry))) (testsOf (now (self .entry))) (testsOf (now (self .exit))) (now (bytes .entry))) ⌝ }
     {
         if self.tests.len() >= TESTS {
             return Err(RecordFault::Full);
@@ -90,6 +90,7 @@ impl TestTable {
     pub fn strike(&mut self) -> Result<(), RecordFault>
         ensures refused { λ r. ⌜ mapped refusalOf (errPart r) ≡ errPart (struck (testsOf (now (self .entry)))) ⌝ }
         ensures after { λ _. ⌜ testsOf (now (self .exit)) ≡ kept (testsOf (now (self .entry))) (struck (testsOf (now (self .entry)))) ⌝ }
+        ensures one { λ r. ⌜ made r (λ _. Struck (testsOf (now (self .entry))) (testsOf (now (self .exit)))) ⌝ }
     {
         if self.tests.pop().is_none() {
             return Err(RecordFault::NoTest);

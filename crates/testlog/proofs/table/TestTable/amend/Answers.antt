@@ -1,30 +1,20 @@
-use mathlib.Core.Path.{_≡_, sym, ap, subst, _∙_}
-use mathlib.Core.List.{List, map}
-use Prim.Native.Nat.{ℕ, _<_, _≤_}
+use mathlib.Core.Path.{_≡_, sym, ap, _∙_}
+use mathlib.Core.List.{map}
+use Prim.Native.Nat.{_<_}
 use native.Mathlib.Omega.{arith}
-use lib.ListN.{length, getD, set}
-use Rattle.std.specs.Finite.{nth}
+use lib.ListN.{length, set}
 use Rattle.std.specs.Of.Vec.{vec-items, vec-len}
-use Rattle.std.specs.Options.{mapped}
 use Rattle.std.specs.Results.{errPart}
-use Rattle.std.specs.declared.option.Option.the-variants.{Some}
 use Rattle.std.specs.declared.result.Result.the-variants.{Ok}
 use Rattle.std.proofs.shelf.Lists.{length-map, map-set}
-use Rattle.std.proofs.shelf.Maps.{nth-read}
-use Rattle.circuit.specs.Tests.{Test as Spec}
-use Rattle.test_format.specs.Amending.{amended, Amended, withReading}
-use Rattle.test_format.proofs.Holding.{nth-map, set-nth, amended-nowhere, amended-no-output, amended-to}
+use Rattle.test_format.specs.Amending.{withReading}
+use Rattle.test_format.proofs.Holding.{set-nth, amended-nowhere, amended-no-output, amended-to}
 use Rattle.test_format.proofs.OneOutput.{amends-one}
-use Rattle.testlog.specs.declared.test.Test.{Test}
-use Rattle.testlog.specs.declared.table.TestTable.{TestTable}
 use Rattle.testlog.specs.Held.{testOf, testsOf}
 use Rattle.testlog.specs.Faults.{kept}
+use Rattle.testlog.proofs.TableItems.{held-at}
 use Rattle.testlog.proofs.table.TestTable.amend.Needs as need
 use Rattle.testlog.proofs.table.TestTable.amend.Needs.{then-test-len·by·then-test-len, then-test-len·by·else-test-len·then-not-amend}
-
--- the test at a place of a table, as what it stands for
-held-at : (items : List Test) (i n : ℕ) (t : Test) → n ≡ length items → i < n → t ≡ getD items i t → nth (map testOf items) i ≡ Some (testOf t)
-held-at items i n t e h r = nth-map testOf items i ∙ ap (mapped testOf) (nth-read items n i t e h r)
 
 pub returns-then-test-len : need.returns-then-test-len
 returns-then-test-len c =

@@ -13,6 +13,7 @@ use Rattle.test_format.proofs.Holding.{struck-to}
 use Rattle.testlog.specs.declared.test.Test.{Test}
 use Rattle.testlog.specs.Held.{testOf, testsOf}
 use Rattle.testlog.specs.Faults.{kept}
+use Rattle.testlog.proofs.TableItems.{popped}
 use Rattle.testlog.proofs.table.TestTable.strike.Needs as need
 
 pub returns : need.returns
@@ -25,4 +26,5 @@ returns c =
     record {
       refused = sym (ap errPart struck-is);
       after = ap (map testOf) (c .pop .ensures .places .1) ∙ sym (take-map testOf (vec-len v - 1) (vec-items v)) ∙ sym (ap (kept ts) struck-is);
+      one = popped (vec-items v) (vec-items (c .pop .last .self)) (c .pop .result) (c .pop .ensures .items) (c .if-is-none .ensures tt);
     }
