@@ -9,7 +9,7 @@ use circuit::Signal;
 use refusal::RefusalDisplay;
 use std::alloc::AllocError;
 use std::alloc::Global;
-use std::error::AnyError;
+use std::io;
 use testlog::RecordFault;
 use testlog::TestTable;
 use testlog::cut;
@@ -46,41 +46,33 @@ impl Bench {
     }
 
     // Prints a dot where the answer was yes, and the number of the refusal where not.
-    fn print_answer(rt: &LibcRuntime, answer: Result<(), RecordFault>) -> Result<(), AnyError> {
+    fn print_answer(rt: &LibcRuntime, answer: Result<(), RecordFault>) -> io::Result<()> {
         match answer {
-            Ok(()) => print!(rt, " .")?,
-            Err(fault) => {
-                let number = fault.refusal().number;
-                print!(rt, " {number}")?;
-            }
+            Ok(()) => print!(rt, " ."),
+            Err(fault) => print!(rt, " {}", fault.refusal().number),
         }
-        Ok(())
     }
 
     // Records bytes, and prints the test that they gave, or the refusal.
-    pub fn record(&mut self, rt: &LibcRuntime, bytes: &[u8]) -> Result<(), AnyError> {
-        match self.table.record(&self.circuit, bytes) {
-            Ok(()) => {
-                if let Some(test) = self.table.tests().last() {
-                    print_test(rt, test)?;
-                }
-            }
-            Err(fault) => {
-                let refusal = fault.refusal();
-                println!(rt, "{refusal}")?;
-            }
+    pub fn record(&mut self, rt: &LibcRuntime, bytes: &[u8]) -> io::Result<()> {
+        if let Err(fault) = self.table.record(&self.circuit, bytes) {
+            let refusal = fault.refusal();
+            return println!(rt, "{refusal}");
         }
-        Ok(())
+        match self.table.tests().last() {
+            Some(test) => print_test(rt, test),
+            None => Ok(()),
+        }
     }
 
     // Records bytes, and prints only whether they were taken.
-    pub fn answer(&mut self, rt: &LibcRuntime, bytes: &[u8]) -> Result<(), AnyError> {
+    pub fn answer(&mut self, rt: &LibcRuntime, bytes: &[u8]) -> io::Result<()> {
         let answer = self.table.record(&self.circuit, bytes);
         Bench::print_answer(rt, answer)
     }
 
     // Tries each length, from no byte to two more than there are.
-    pub fn try_lengths(&mut self, rt: &LibcRuntime, bytes: &mut Vec<u8>) -> Result<(), AnyError> {
+    pub fn try_lengths(&mut self, rt: &LibcRuntime, bytes: &mut Vec<u8>) -> io::Result<()> {
         let len = bytes.len();
         print!(rt, "lengths")?;
         for n in 0..len {
@@ -93,8 +85,7 @@ impl Bench {
             bytes.push(0)?;
         }
         bytes.truncate(len);
-        println!(rt)?;
-        Ok(())
+        println!(rt)
     }
 
     fn turn(bytes: &mut Vec<u8>, i: usize, mask: u8) {
@@ -104,7 +95,7 @@ impl Bench {
     }
 
     // Tries the bytes with each bit of them turned, lowest first.
-    pub fn try_bits(&mut self, rt: &LibcRuntime, bytes: &mut Vec<u8>) -> Result<(), AnyError> {
+    pub fn try_bits(&mut self, rt: &LibcRuntime, bytes: &mut Vec<u8>) -> io::Result<()> {
         print!(rt, "bits")?;
         for i in 0..bytes.len() {
             for mask in [1u8, 2, 4, 8, 16, 32, 64, 128] {
@@ -114,12 +105,11 @@ impl Bench {
                 Bench::turn(bytes, i, mask);
             }
         }
-        println!(rt)?;
-        Ok(())
+        println!(rt)
     }
 
     // Cuts a log, and records each piece.
-    pub fn record_log(&mut self, rt: &LibcRuntime, log: &[u8]) -> Result<(), AnyError> {
+    pub fn record_log(&mut self, rt: &LibcRuntime, log: &[u8]) -> io::Result<()> {
         let mut rest = log;
         while !rest.is_empty() {
             let (piece, behind) = cut(&self.circuit, rest);
@@ -131,7 +121,13 @@ impl Bench {
     }
 
     // Amends one output, and prints the tests.
-    pub fn amend(&mut self, rt: &LibcRuntime, test: usize, output: usize, value: u8) -> Result<(), AnyError> {
+    pub fn amend(
+        &mut self,
+        rt: &LibcRuntime,
+        test: usize,
+        output: usize,
+        value: u8,
+    ) -> io::Result<()> {
         print!(rt, "amend {test} {output} {value}:")?;
         let answer = self.table.amend(test, output, value);
         Bench::print_answer(rt, answer)?;
@@ -139,20 +135,18 @@ impl Bench {
     }
 
     // Strikes the last test, and prints those left.
-    pub fn strike(&mut self, rt: &LibcRuntime) -> Result<(), AnyError> {
+    pub fn strike(&mut self, rt: &LibcRuntime) -> io::Result<()> {
         print!(rt, "strike:")?;
         let answer = self.table.strike();
         Bench::print_answer(rt, answer)?;
         self.print_tests(rt)
     }
 
-    fn print_tests(&self, rt: &LibcRuntime) -> Result<(), AnyError> {
+    fn print_tests(&self, rt: &LibcRuntime) -> io::Result<()> {
         let len = self.table.len();
         println!(rt, " {len} held")?;
-        for i in 0..len {
-            if let Some(test) = self.table.get(i) {
-                print_test(rt, test)?;
-            }
+        for test in self.table.tests() {
+            print_test(rt, test)?;
         }
         Ok(())
     }

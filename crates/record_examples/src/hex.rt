@@ -1,6 +1,6 @@
 // Bytes written in hexadecimal.
+use std::alloc::AllocError;
 use std::alloc::Global;
-use std::error::AnyError;
 
 fn digit(byte: u8) -> Option<u8> {
     match byte {
@@ -10,8 +10,8 @@ fn digit(byte: u8) -> Option<u8> {
     }
 }
 
-// The bytes that a word spells, two digits each; `-` spells none.
-pub fn bytes_of(heap: Global, word: &str) -> Result<Vec<u8>, AnyError> {
+// The bytes that a word spells, two digits each.
+pub fn bytes_of(heap: Global, word: &str) -> Result<Vec<u8>, AllocError> {
     let mut bytes = Vec::new(heap);
     let mut high = None;
     for byte in word.as_bytes() {

@@ -66,16 +66,18 @@ pub first-is : (c : Circuit) (p rest : List ℕ) → HasSignals c → (length p 
 first-is c p rest sig (inl e) =
     let pos = required-some c p sig in
     let same : required c (p ++ rest) ≡ length p = required-front c p rest (omega arith) ∙ sym e in
-    let no : eqb (required c (p ++ rest)) 0 ≡ false = ne-eqb (required c (p ++ rest)) 0 (λ z. omega arith) in
-    (cond-false _ (p ++ rest) (take (required c (p ++ rest)) (p ++ rest)) no ∙ take-at p rest (required c (p ++ rest)) (sym same),
-     cond-false _ [] (drop (required c (p ++ rest)) (p ++ rest)) no ∙ drop-at p rest (required c (p ++ rest)) (sym same))
+    let no : eqb (required c (p ++ rest)) 0 ≡ false = ne-eqb (required c (p ++ rest)) 0 (λ z. omega arith) in (
+      cond-false _ (p ++ rest) (take (required c (p ++ rest)) (p ++ rest)) no ∙ take-at p rest (required c (p ++ rest)) (sym same),
+      cond-false _ [] (drop (required c (p ++ rest)) (p ++ rest)) no ∙ drop-at p rest (required c (p ++ rest)) (sym same),
+    )
 first-is c p rest sig (inr e) =
     let pos = required-some c (p ++ rest) sig in
     let no : eqb (required c (p ++ rest)) 0 ≡ false = ne-eqb (required c (p ++ rest)) 0 (λ z. omega arith) in
     let whole : p ++ rest ≡ p = ap (λ (l : List ℕ). p ++ l) (e .0) ∙ append-nil p in
-    let n : length (p ++ rest) ≤ required c (p ++ rest) = subst (λ (l : List ℕ). length l ≤ required c l) (sym whole) (e .1) in
-    (cond-false _ (p ++ rest) (take (required c (p ++ rest)) (p ++ rest)) no ∙ take-all (required c (p ++ rest)) (p ++ rest) n ∙ whole,
-     cond-false _ [] (drop (required c (p ++ rest)) (p ++ rest)) no ∙ drop-all (required c (p ++ rest)) (p ++ rest) n ∙ sym (e .0))
+    let n : length (p ++ rest) ≤ required c (p ++ rest) = subst (λ (l : List ℕ). length l ≤ required c l) (sym whole) (e .1) in (
+      cond-false _ (p ++ rest) (take (required c (p ++ rest)) (p ++ rest)) no ∙ take-all (required c (p ++ rest)) (p ++ rest) n ∙ whole,
+      cond-false _ [] (drop (required c (p ++ rest)) (p ++ rest)) no ∙ drop-all (required c (p ++ rest)) (p ++ rest) n ∙ sym (e .0),
+    )
 
 -- ── cut off by what the map requires, or not cut ──
 pub first-part : (c : Circuit) (log : List ℕ) (n : ℕ) → n ≡ required c log → (n ≡ 0 → ⊥) → (take n log ≡ firstRecord c log) × (drop n log ≡ afterFirst c log)

@@ -11,23 +11,23 @@ use Rattle.std.proofs.shelf.Lists.{take-more, take-more-set, append-assoc, at-d
 use Rattle.test_format.specs.Records.{filled}
 
 pub filled-marked : (ms vs : List Bool) (i next : ℕ) (os : List (Option Bool)) → i < length ms → i < length os → getD ms i false ≡ true
-  → take (i + 1) (set os i (Some (getD vs next false))) ++ filled (drop (i + 1) ms) (drop (next + 1) vs) ≡ take i os ++ filled (drop i ms) (drop next vs)
+    → take (i + 1) (set os i (Some (getD vs next false))) ++ filled (drop (i + 1) ms) (drop (next + 1) vs) ≡ take i os ++ filled (drop i ms) (drop next vs)
 unfolding filled
 filled-marked ms vs i next os h l m =
     let w = drop next vs in
     let behind = drop (i + 1) ms in
     let value = Some (getD vs next false) in
     let here : filled (drop i ms) w ≡ value ∷ filled behind (drop (next + 1) vs) =
-      at-drop-more (λ (s : List Bool). filled s w) ms i false h
-      ∙ ap (λ b. filled (b ∷ behind) w) m
-      ∙ ap (λ b. Some b ∷ filled behind (drop 1 w)) (getD-drop next vs 0 false ∙ ap (λ k. getD vs k false) (add-zero next))
-      ∙ ap (λ (s : List Bool). value ∷ filled behind s) (drop-drop 1 next vs) in
+    at-drop-more (λ (s : List Bool). filled s w) ms i false h
+    ∙ ap (λ b. filled (b ∷ behind) w) m
+    ∙ ap (λ b. Some b ∷ filled behind (drop 1 w)) (getD-drop next vs 0 false ∙ ap (λ k. getD vs k false) (add-zero next))
+    ∙ ap (λ (s : List Bool). value ∷ filled behind s) (drop-drop 1 next vs) in
     ap (λ (s : List (Option Bool)). s ++ filled behind (drop (next + 1) vs)) (take-more-set os i value l)
     ∙ append-assoc (take i os) (value ∷ []) (filled behind (drop (next + 1) vs))
     ∙ ap (λ (s : List (Option Bool)). take i os ++ s) (sym here)
 
 pub filled-unmarked : (ms w : List Bool) (i : ℕ) (os : List (Option Bool)) → i < length ms → i < length os → getD ms i false ≡ false → getD os i None ≡ None
-  → take (i + 1) os ++ filled (drop (i + 1) ms) w ≡ take i os ++ filled (drop i ms) w
+    → take (i + 1) os ++ filled (drop (i + 1) ms) w ≡ take i os ++ filled (drop i ms) w
 unfolding filled
 filled-unmarked ms w i os h l m n =
     let behind = drop (i + 1) ms in

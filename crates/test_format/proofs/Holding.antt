@@ -13,13 +13,14 @@ use Rattle.std.specs.declared.option.Option.{Option}
 use Rattle.std.specs.declared.option.Option.the-variants.{Some, None}
 use Rattle.std.specs.declared.result.Result.{Result}
 use Rattle.std.specs.declared.result.Result.the-variants.{Ok, Err}
+use Rattle.std.proofs.shelf.Lists.{take-all, take-more}
 use Rattle.std.proofs.shelf.Maps.{nth-getD, nth-past}
 use Rattle.std.proofs.shelf.Tests.{lt-ltb, le-ltb, cond-true, cond-false}
 use Rattle.refusal.specs.declared.Refusal.{Refusal}
 use Rattle.circuit.specs.Circuits.{Circuit}
 use Rattle.circuit.specs.Tests.{Test}
 use Rattle.test_format.specs.Records.{refused, ask, decoded, joinedBy, recorded}
-use Rattle.test_format.specs.Amending.{reading, outputOf, outputAt, withReading, replaced, amendedBy, amended, struck}
+use Rattle.test_format.specs.Amending.{reading, outputOf, outputAt, withReading, replaced, amendedBy, amended, struck, Struck}
 
 -- ── one more record, where n tests are held ──
 pub recorded-full : (c : Circuit) (ts : List Test) (bytes : List ℕ) (n : ℕ) → n ≡ length ts → 32 ≤ n → recorded c ts bytes ≡ refused 11
@@ -85,5 +86,15 @@ amended-to ts k o n v t r e there =
     ∙ ap Ok (sym (replaced-is ts k o v t e))
 
 -- ── the last test ──
-pub struck-to : (ts : List Test) (n : ℕ) → n ≡ length ts → true ≡ ltb 0 n → struck ts ≡ Ok (take (n - 1) ts)
-struck-to ts n e some = cond-true (ltb 0 (length ts)) (Ok (take (length ts - 1) ts)) (refused 15) (ap (ltb 0) (sym e) ∙ sym some) ∙ ap (λ k. Ok (take (k - 1) ts)) (sym e)
+pub struck-to : (ts : List Test) (n : ℕ) → n ≡ length ts → 0 < n → struck ts ≡ Ok (take (n - 1) ts)
+struck-to ts n e some = cond-true (ltb 0 (length ts)) (Ok (take (length ts - 1) ts)) (refused 15) (lt-ltb 0 (length ts) (omega arith)) ∙ ap (λ k. Ok (take (k - 1) ts)) (sym e)
+
+pub struck-none : (ts : List Test) (n : ℕ) → n ≡ length ts → n ≡ 0 → struck ts ≡ refused 15
+struck-none ts n e none = cond-false (ltb 0 (length ts)) (Ok (take (length ts - 1) ts)) (refused 15) (le-ltb 0 (length ts) (omega arith))
+
+pub struck-one : (ts : List Test) (n : ℕ) → n ≡ length ts → 0 < n → Struck ts (take (n - 1) ts)
+struck-one [] n e some = absurd (omega arith)
+struck-one (t ∷ ts) n e some =
+    let last : n - 1 < length (t ∷ ts) = omega arith in
+    let whole : length (t ∷ ts) ≤ n - 1 + 1 = omega arith in
+    record { test = getD (t ∷ ts) (n - 1) t; last = sym (take-all (n - 1 + 1) (t ∷ ts) whole) ∙ take-more (t ∷ ts) (n - 1) t last }

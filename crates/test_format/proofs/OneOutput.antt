@@ -83,7 +83,10 @@ pub amends-one : Amends-one
 amends-one ts us k o n h = amended-by ts us k o n (reading n) refl h
 
 pub strikes-last : Strikes-last
-strikes-last = (λ ts t.
-  let more = length-push ts t in
-  let one : length ts ≡ length (ts ++ t ∷ []) - 1 = omega arith in
-  ask-so 15 (ltb 0 (length (ts ++ t ∷ []))) _ (lt-ltb 0 (length (ts ++ t ∷ [])) (omega arith)) ∙ ap Ok (take-at ts (t ∷ []) (length (ts ++ t ∷ []) - 1) one), refl)
+strikes-last = (
+  λ ts t.
+      let more = length-push ts t in
+      let one : length ts ≡ length (ts ++ t ∷ []) - 1 = omega arith in
+      ask-so 15 (ltb 0 (length (ts ++ t ∷ []))) _ (lt-ltb 0 (length (ts ++ t ∷ [])) (omega arith)) ∙ ap Ok (take-at ts (t ∷ []) (length (ts ++ t ∷ []) - 1) one),
+  refl,
+)

@@ -58,7 +58,7 @@ tests-stay-fit c ts us f = record {
   after-record = λ bytes e. joined-fits c ts us (decoded c bytes) (decoded-fits c bytes) f (ask-taken 11 (ltb (length ts) 32) (joinedBy ts (decoded c bytes)) us e .1);
   after-amend = λ k o n e. amended-fits c ts us k o (reading n) f e;
   after-strike = λ e.
-    let p = ask-taken 15 (ltb 0 (length ts)) (Ok (take (length ts - 1) ts)) us e in
-    let same : take (length ts - 1) ts ≡ us = cc (p .1) in
-    subst (λ (l : List Test). All (FitsTest c) l) same (all-take (FitsTest c) (length ts - 1) ts f);
+      let p = ask-taken 15 (ltb 0 (length ts)) (Ok (take (length ts - 1) ts)) us e in
+      let same : take (length ts - 1) ts ≡ us = cc (p .1) in
+      subst (λ (l : List Test). All (FitsTest c) l) same (all-take (FitsTest c) (length ts - 1) ts f);
 }

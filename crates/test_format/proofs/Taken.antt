@@ -59,11 +59,11 @@ module _ (I O : ℕ) (bytes : List ℕ) (long : length bytes ≡ recordLength I 
       let q = and-parts (clear I ig) (clear (ones ms) vg) (p .1) in
       let behind = all-drop isByte (bytesFor O) bytes b in
       let map-packed : mg ≡ pack (map isSome (filled ms (unpack vg))) =
-        clear-is-packed O mg (all-take isByte (bytesFor O) bytes b) length-map-group (p .0) ∙ ap pack (sym map-in-group ∙ sym (marks-filled ms (unpack vg))) in
+      clear-is-packed O mg (all-take isByte (bytesFor O) bytes b) length-map-group (p .0) ∙ ap pack (sym map-in-group ∙ sym (marks-filled ms (unpack vg))) in
       let inputs-packed : ig ≡ pack (take I (unpack ig)) = clear-is-packed I ig (all-take isByte (bytesFor I) (drop (bytesFor O) bytes) behind) length-input-group (q .0) in
       let few : ones ms ≤ length (unpack vg) = omega (arith, length-unpack vg, length-value-group) in
       let values-packed : vg ≡ pack (measured (filled ms (unpack vg))) =
-        clear-is-packed (ones ms) vg (all-drop isByte (bytesFor I) (drop (bytesFor O) bytes) behind) length-value-group (q .1) ∙ ap pack (sym (measured-filled ms (unpack vg) few)) in
+      clear-is-packed (ones ms) vg (all-drop isByte (bytesFor I) (drop (bytesFor O) bytes) behind) length-value-group (q .1) ∙ ap pack (sym (measured-filled ms (unpack vg) few)) in
       sym (groups-joined I O bytes)
       ∙ ap (λ (l : List ℕ). l ++ (ig ++ vg)) map-packed
       ∙ ap (λ (l : List ℕ). pack (map isSome (filled ms (unpack vg))) ++ (l ++ vg)) inputs-packed

@@ -39,7 +39,10 @@ impl Test {
         }
         let (map, rest) = bytes.split_at(bytes_for(outputs));
         let (applied, values) = rest.split_at(bytes_for(inputs));
-        if !is_clear(map, outputs) || !is_clear(applied, inputs) || !is_clear(values, marked(bytes, outputs)) {
+        if !is_clear(map, outputs)
+            || !is_clear(applied, inputs)
+            || !is_clear(values, marked(bytes, outputs))
+        {
             return Err(RecordFault::UnusedBits);
         }
         Ok(Test {

@@ -48,7 +48,7 @@ impl TestTable {
     pub fn get(&self, test: usize) -> Option<&Test>
         ensures { λ r. ⌜ mapped (λ t. testOf (now t)) r ≡ nth (testsOf (now (self .entry))) test ⌝ }
     {
-        self.tests.as_slice().get(test)
+        self.tests().get(test)
     }
 
     pub fn clear(&mut self)
@@ -92,9 +92,11 @@ impl TestTable {
         ensures after { λ _. ⌜ testsOf (now (self .exit)) ≡ kept (testsOf (now (self .entry))) (struck (testsOf (now (self .entry)))) ⌝ }
         ensures one { λ r. ⌜ made r (λ _. Struck (testsOf (now (self .entry))) (testsOf (now (self .exit)))) ⌝ }
     {
-        if self.tests.pop().is_none() {
+        let held = self.tests.len();
+        if held == 0 {
             return Err(RecordFault::NoTest);
         }
+        self.tests.truncate(held - 1);
         Ok(())
     }
 }

@@ -34,7 +34,8 @@ impl RecordFault {
             RecordFault::Full => "at most 32 tests are held",
             RecordFault::Length => "a record is as long as its map requires",
             RecordFault::UnusedBits => "the unused bits of a record are 0",
-            RecordFault::Amendment => "a change names a test that is held, one of its outputs, and 0, 1 or 2 for not measured",
+            RecordFault::Amendment =>
+                "a change names a test that is held, one of its outputs, and 0, 1 or 2 for not measured",
             RecordFault::NoTest => "no test is held",
         }
     }

@@ -15,8 +15,10 @@ loop-i-again c =
     let i = c .loop-i .i in
     let xs = c .loop-i .inputs in
     let room : i < length xs = omega (arith, c .loop-i .inv .1) in
-    let here : i < length u = omega (arith, length-unpack (c .args .group .now)) in
-    (take-more-set xs i (c .bit-at .result) room
-    ∙ ap (λ (l : List Bool). l ++ c .bit-at .result ∷ []) (c .loop-i .inv .0)
-    ∙ ap (λ b. take i u ++ b ∷ []) (c .bit-at .ensures)
-    ∙ sym (take-more u i false here), length-set xs i (c .bit-at .result) ∙ c .loop-i .inv .1)
+    let here : i < length u = omega (arith, length-unpack (c .args .group .now)) in (
+      take-more-set xs i (c .bit-at .result) room
+          ∙ ap (λ (l : List Bool). l ++ c .bit-at .result ∷ []) (c .loop-i .inv .0)
+          ∙ ap (λ b. take i u ++ b ∷ []) (c .bit-at .ensures)
+          ∙ sym (take-more u i false here),
+      length-set xs i (c .bit-at .result) ∙ c .loop-i .inv .1,
+    )

@@ -33,27 +33,27 @@ loop-i-again c =
     let behind = drop (i + 1) ms in
     elim (c .if-bit-at .came) [
       | then-bit-at w ↦
-        let value : Option Bool = Some (w .bit-at-then-bit-at .result) in
-        let now-set : c .if-bit-at .outputs ≡ set os i value = w .outputs-is in (
-          ap (λ (o : List (Option Bool)). take (i + 1) o ++ filled behind (drop (c .if-bit-at .next) vs)) now-set
-          ∙ ap (λ n. take (i + 1) (set os i value) ++ filled behind (drop n vs)) (w .next-is)
-          ∙ ap (λ b. take (i + 1) (set os i (Some b)) ++ filled behind (drop (c .loop-i .next + 1) vs)) (w .bit-at-then-bit-at .ensures)
-          ∙ filled-marked ms vs i (c .loop-i .next) os here room (marked ∙ sym (w .if-bit-at .ensures tt))
-          ∙ inv .0,
-          λ k h. let other : k ≢ i = omega arith in ap (λ (o : List (Option Bool)). getD o k None) now-set ∙ getD-set-other os i k value None other ∙ inv .1 k (omega arith),
-          omega (arith, w .next-is),
-          ap length now-set ∙ length-set os i value ∙ inv .3,
-        )
+          let value : Option Bool = Some (w .bit-at-then-bit-at .result) in
+          let now-set : c .if-bit-at .outputs ≡ set os i value = w .outputs-is in (
+            ap (λ (o : List (Option Bool)). take (i + 1) o ++ filled behind (drop (c .if-bit-at .next) vs)) now-set
+                ∙ ap (λ n. take (i + 1) (set os i value) ++ filled behind (drop n vs)) (w .next-is)
+                ∙ ap (λ b. take (i + 1) (set os i (Some b)) ++ filled behind (drop (c .loop-i .next + 1) vs)) (w .bit-at-then-bit-at .ensures)
+                ∙ filled-marked ms vs i (c .loop-i .next) os here room (marked ∙ sym (w .if-bit-at .ensures tt))
+                ∙ inv .0,
+            λ k h. let other : k ≢ i = omega arith in ap (λ (o : List (Option Bool)). getD o k None) now-set ∙ getD-set-other os i k value None other ∙ inv .1 k (omega arith),
+            omega (arith, w .next-is),
+            ap length now-set ∙ length-set os i value ∙ inv .3,
+          )
       | else-bit-at w ↦
-        let same : c .if-bit-at .outputs ≡ os = w .outputs-is in (
-          ap (λ (o : List (Option Bool)). take (i + 1) o ++ filled behind (drop (c .if-bit-at .next) vs)) same
-          ∙ ap (λ n. take (i + 1) os ++ filled behind (drop n vs)) (w .next-is)
-          ∙ filled-unmarked ms (drop (c .loop-i .next) vs) i os here room (marked ∙ sym (w .if-bit-at .ensures tt)) (inv .1 i (omega arith))
-          ∙ inv .0,
-          λ k h. ap (λ (o : List (Option Bool)). getD o k None) same ∙ inv .1 k (omega arith),
-          omega (arith, w .next-is),
-          ap length same ∙ inv .3,
-        )
+          let same : c .if-bit-at .outputs ≡ os = w .outputs-is in (
+            ap (λ (o : List (Option Bool)). take (i + 1) o ++ filled behind (drop (c .if-bit-at .next) vs)) same
+                ∙ ap (λ n. take (i + 1) os ++ filled behind (drop n vs)) (w .next-is)
+                ∙ filled-unmarked ms (drop (c .loop-i .next) vs) i os here room (marked ∙ sym (w .if-bit-at .ensures tt)) (inv .1 i (omega arith))
+                ∙ inv .0,
+            λ k h. ap (λ (o : List (Option Bool)). getD o k None) same ∙ inv .1 k (omega arith),
+            omega (arith, w .next-is),
+            ap length same ∙ inv .3,
+          )
     ]
 
 pub returns : need.returns

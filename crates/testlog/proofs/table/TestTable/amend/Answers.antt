@@ -23,23 +23,23 @@ returns-then-test-len c =
     let many : vec-len v ≡ length ts = v .ok .0 ∙ sym (length-map (vec-items v) testOf) in
     elim (c .then-test-len .came) [
       | then-test-len·by·then-test-len w ↦
-        let nowhere = amended-nowhere ts (c .args .test) (c .args .output) (c .args .value) (c .in-Some .reading) (c .in-Some .ensures tt) (omega (arith, w .if-test-len .taken, c .len .ensures)) in
-        record { refused = sym (ap errPart nowhere); after = ap testsOf (w .self-is) ∙ sym (ap (kept ts) nowhere); one = tt }
+          let nowhere = amended-nowhere ts (c .args .test) (c .args .output) (c .args .value) (c .in-Some .reading) (c .in-Some .ensures tt) (omega (arith, w .if-test-len .taken, c .len .ensures)) in
+          record { refused = sym (ap errPart nowhere); after = ap testsOf (w .self-is) ∙ sym (ap (kept ts) nowhere); one = tt }
       | then-test-len·by·else-test-len·then-not-amend w ↦
-        let k = c .args .test in
-        let t = w .index-mut .result .now in
-        let here = held-at (vec-items v) k (vec-len v) t (v .ok .0) (omega (arith, w .if-test-len .left, c .len .ensures)) (w .index-mut .ensures .value) in
-        let no-such = amended-no-output ts k (c .args .output) (c .args .value) (c .in-Some .reading) (testOf t) (c .in-Some .ensures tt) here (w .if-not-amend .ensures tt .value) in
-        record {
-          refused = sym (ap errPart no-such);
-          after =
-            ap testsOf (w .self-is)
-            ∙ map-set testOf (vec-items v) k (w .amend .last .self)
-            ∙ ap (set ts k) (w .if-not-amend .ensures tt .after)
-            ∙ set-nth ts k (testOf t) here
-            ∙ sym (ap (kept ts) no-such);
-          one = tt;
-        }
+          let k = c .args .test in
+          let t = w .index-mut .result .now in
+          let here = held-at (vec-items v) k (vec-len v) t (v .ok .0) (omega (arith, w .if-test-len .left, c .len .ensures)) (w .index-mut .ensures .value) in
+          let no-such = amended-no-output ts k (c .args .output) (c .args .value) (c .in-Some .reading) (testOf t) (c .in-Some .ensures tt) here (w .if-not-amend .ensures tt .value) in
+          record {
+            refused = sym (ap errPart no-such);
+            after =
+                ap testsOf (w .self-is)
+                ∙ map-set testOf (vec-items v) k (w .amend .last .self)
+                ∙ ap (set ts k) (w .if-not-amend .ensures tt .after)
+                ∙ set-nth ts k (testOf t) here
+                ∙ sym (ap (kept ts) no-such);
+            one = tt;
+          }
     ]
 
 pub returns : need.returns
@@ -51,7 +51,7 @@ returns c =
     let here = held-at (vec-items v) k (vec-len v) t (v .ok .0) (omega (arith, c .if-test-len .left, c .len .ensures)) (c .index-mut .ensures .value) in
     let changed = amended-to ts k (c .args .output) (c .args .value) (c .in-Some .reading) (testOf t) (c .in-Some .ensures tt) here (c .if-not-amend .ensures tt .value) in
     let held : map testOf (set (vec-items v) k (c .amend .last .self)) ≡ set ts k (withReading (testOf t) (c .args .output) (c .in-Some .reading)) =
-      map-set testOf (vec-items v) k (c .amend .last .self) ∙ ap (set ts k) (c .if-not-amend .ensures tt .after) in
+    map-set testOf (vec-items v) k (c .amend .last .self) ∙ ap (set ts k) (c .if-not-amend .ensures tt .after) in
     record {
       refused = sym (ap errPart changed);
       after = held ∙ sym (ap (kept ts) changed);
