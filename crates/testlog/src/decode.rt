@@ -1,10 +1,8 @@
 // Records decoded into tests, and what a test holds.
 ghost use mathlib.Core.Path.{_≡_};
 ghost use Prim.Native.Nat.{_≤_};
-ghost use Rattle.std.specs.Vec.{made};
 ghost use Rattle.circuit.specs.Held.{circuitOf};
-ghost use Rattle.circuit.specs.Tests.{FitsTest};
-ghost use Rattle.test_format.specs.Records.{recordLength, decoded, written};
+ghost use Rattle.test_format.specs.Records.{recordLength, decoded};
 ghost use Rattle.testlog.specs.Held.{testOf};
 ghost use Rattle.testlog.specs.Faults.{read};
 use crate::bits::bytes_for;
@@ -28,9 +26,7 @@ pub(crate) fn record_len(inputs: usize, outputs: usize, bytes: &[u8]) -> usize
 impl Test {
     // The test that a record gives, or why it is none of this circuit.
     pub fn decode(circuit: &Circuit, bytes: &[u8]) -> Result<Test, RecordFault>
-        ensures value { λ r. ⌜ read r ≡ decoded (circuitOf (now (circuit .entry))) (now (bytes .entry)) ⌝ }
-        ensures fits { λ r. ⌜ made r (λ t. FitsTest (circuitOf (now (circuit .entry))) (testOf t)) ⌝ }
-        ensures written { λ r. ⌜ made r (λ t. now (bytes .entry) ≡ written (testOf t)) ⌝ }
+        ensures { λ r. ⌜ read r ≡ decoded (circuitOf (now (circuit .entry))) (now (bytes .entry)) ⌝ }
     {
         let inputs = circuit.inputs();
         let outputs = circuit.outputs().len();
