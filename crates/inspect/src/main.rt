@@ -1,7 +1,10 @@
-// Describes the netlist in `case.net`, or says what is wrong with it and where.
-use circuit::Circuit;
-use circuit::Kind;
-use circuit::KindPartialEq;
+// Describes the netlist in `case.net` and the tests in `case.tst`, or says what is wrong with them and where.
+mod describe;
+mod log;
+
+use describe::describe;
+use log::describe_tests;
+use log::record_all;
 use netlist::Netlist;
 use netlist::ReadFault;
 use netlist::ReadFaultDisplay;
@@ -9,6 +12,9 @@ use refusal::RefusalDisplay;
 use std::fs;
 use std::io;
 use std::io::ErrorKind;
+use testlog::RecordFault;
+use testlog::RecordFaultDisplay;
+use testlog::TestTable;
 
 // The bytes of a file; those of a missing one are none.
 fn read_or_none(rt: &LibcRuntime, path: &str) -> io::Result<Vec<u8>> {
@@ -24,43 +30,32 @@ fn read_or_none(rt: &LibcRuntime, path: &str) -> io::Result<Vec<u8>> {
     }
 }
 
-fn count(circuit: &Circuit, kind: Kind) -> usize {
-    let mut n: usize = 0;
-    for gate in circuit.gates() {
-        if gate.kind == kind {
-            n = n.saturating_add(1);
-        }
-    }
-    n
-}
-
-fn describe(rt: &LibcRuntime, circuit: &Circuit) -> io::Result<()> {
-    println!(rt, "inputs {}", circuit.inputs())?;
-    println!(rt, "outputs {}", circuit.outputs().len())?;
-    println!(rt, "gates {}", circuit.gates().len())?;
-    println!(rt, "AND {}", count(circuit, Kind::And))?;
-    println!(rt, "OR {}", count(circuit, Kind::Or))?;
-    println!(rt, "NAND {}", count(circuit, Kind::Nand))?;
-    println!(rt, "NOR {}", count(circuit, Kind::Nor))?;
-    println!(rt, "XOR {}", count(circuit, Kind::Xor))?;
-    println!(rt, "XNOR {}", count(circuit, Kind::Xnor))?;
-    println!(rt, "NOT {}", count(circuit, Kind::Not))
-}
-
-fn refuse(rt: &LibcRuntime, fault: ReadFault) -> io::Result<()> {
+fn refuse_netlist(rt: &LibcRuntime, fault: ReadFault) -> io::Result<()> {
     let refusal = fault.refusal();
     println!(rt, "{refusal}")?;
     println!(rt, "{fault}")
 }
 
+fn refuse_record(rt: &LibcRuntime, number: usize, fault: RecordFault) -> io::Result<()> {
+    let refusal = fault.refusal();
+    println!(rt, "{refusal}")?;
+    println!(rt, "record {number}: {fault}")
+}
+
 fn main(rt: LibcRuntime) -> io::Result<()> {
     let text = read_or_none(&rt, "case.net")?;
+    let log = read_or_none(&rt, "case.tst")?;
     let mut netlist = Netlist::new(rt.alloc())?;
+    let mut tests = TestTable::new(rt.alloc())?;
     if let Err(fault) = netlist.load(text.as_slice()) {
-        return refuse(&rt, fault);
+        return refuse_netlist(&rt, fault);
     }
-    match netlist.circuit() {
-        Some(circuit) => describe(&rt, circuit),
-        None => Ok(()),
+    let Some(circuit) = netlist.circuit() else {
+        return Ok(());
+    };
+    describe(&rt, circuit)?;
+    match record_all(circuit, &mut tests, log.as_slice()) {
+        Ok(()) => describe_tests(&rt, &tests),
+        Err(fault) => refuse_record(&rt, tests.len(), fault),
     }
 }

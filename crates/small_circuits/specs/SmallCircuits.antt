@@ -1,10 +1,9 @@
--- A small circuit, worked out by hand: what the full list is for some tests and bounds, from the netlist's text.
+-- A small circuit, worked out by hand: what the full list is for some tests and bounds, from the netlist's text and the tests' records.
 --   textP             m = AND(a, b), y = OR(m, c), z = NOT(m), with inputs a, b, c and outputs y, z; its gates m, y, z have the numbers 1, 2, 3
---   Row               a text, the tests of a case and a bound, and the sets to be found
---   listed            the full list of a row, if the text gives a netlist
+--   Row               a text, records and a bound, and the sets to be found
+--   listed            the full list of a row, if the text and the records are taken
 --   Found-as-listed   of each row of the table the full list is the one written there
 use mathlib.Core.Path.{_≡_}
-use mathlib.Core.Bool.{true, false}
 use mathlib.Core.List.{List, [], _∷_, _++_, map}
 use Prim.Native.Nat.{ℕ}
 use lib.Chars.{codes}
@@ -17,7 +16,7 @@ use Rattle.refusal.specs.declared.Refusal.{Refusal}
 use Rattle.circuit.specs.Circuits.{Circuit}
 use Rattle.circuit.specs.Tests.{Test}
 use Rattle.diagnosis.specs.FullList.{fullList}
-use Rattle.diagnosis.specs.Witness.{y-low-z-high, both-low}
+use Rattle.test_format.specs.Records.{recorded}
 use Rattle.netlist_text.specs.Netlists.{Netlist}
 use Rattle.netlist_text.specs.Meaning.{meaning}
 
@@ -27,39 +26,41 @@ line l = l ++ 10 ∷ []
 abbrev pub textP : List ℕ
 textP = joined line (codes "INPUT(a)" ∷ codes "INPUT(b)" ∷ codes "INPUT(c)" ∷ codes "OUTPUT(y)" ∷ codes "OUTPUT(z)" ∷ codes "m = AND(a, b)" ∷ codes "y = OR(m, c)" ∷ codes "z = NOT(m)" ∷ [])
 
--- a and b are 1: y was measured 0, and z not
-abbrev pub y-low : Test
-y-low = record { inputs = true ∷ true ∷ false ∷ []; outputs = Some false ∷ None ∷ [] }
-
--- a and b are 1: nothing was measured
-abbrev pub unmeasured : Test
-unmeasured = record { inputs = true ∷ true ∷ false ∷ []; outputs = None ∷ None ∷ [] }
-
 pub record Row : Type 0 where
   pub text : List ℕ
-  pub tests : List Test
+  pub records : List (List ℕ)
   pub bound : ℕ
   pub sets : List (List ℕ)
 
-abbrev row : List ℕ → List Test → ℕ → List (List ℕ) → Row
-row text ts N L = record { text = text; tests = ts; bound = N; sets = L }
+abbrev row : List ℕ → List (List ℕ) → ℕ → List (List ℕ) → Row
+row text rs N L = record { text = text; records = rs; bound = N; sets = L }
 
-abbrev pub listedFor : Result Netlist Refusal → List Test → ℕ → Option (List (List ℕ))
-listedFor (Ok n) ts N = Some (fullList (n .circuit) ts N)
-listedFor (Err r) ts N = None
+-- the tests of these records, after some that are held
+abbrev pub testsOf : Circuit → Result (List Test) Refusal → List (List ℕ) → Result (List Test) Refusal
+testsOf c held [] = held
+testsOf c (Ok ts) (r ∷ rs) = testsOf c (recorded c ts r) rs
+testsOf c (Err f) (r ∷ rs) = Err f
+
+abbrev pub listedWith : Circuit → Result (List Test) Refusal → ℕ → Option (List (List ℕ))
+listedWith c (Ok ts) N = Some (fullList c ts N)
+listedWith c (Err f) N = None
+
+abbrev pub listedFor : Result Netlist Refusal → List (List ℕ) → ℕ → Option (List (List ℕ))
+listedFor (Ok n) rs N = listedWith (n .circuit) (testsOf (n .circuit) (Ok []) rs) N
+listedFor (Err f) rs N = None
 
 abbrev pub listed : Row → Option (List (List ℕ))
-listed r = listedFor (meaning (r .text)) (r .tests) (r .bound)
+listed r = listedFor (meaning (r .text)) (r .records) (r .bound)
 
 abbrev pub table : List Row
 table =
-    row textP (y-low-z-high ∷ []) 2 ((1 ∷ []) ∷ (2 ∷ 3 ∷ []) ∷ [])
-    ∷ row textP (y-low-z-high ∷ []) 1 ((1 ∷ []) ∷ [])
-    ∷ row textP (y-low-z-high ∷ both-low ∷ []) 2 ((1 ∷ 2 ∷ []) ∷ (2 ∷ 3 ∷ []) ∷ [])
-    ∷ row textP (y-low-z-high ∷ both-low ∷ []) 1 []
-    ∷ row textP (y-low ∷ []) 1 ((1 ∷ []) ∷ (2 ∷ []) ∷ [])
+    row textP ((3 ∷ 3 ∷ 2 ∷ []) ∷ []) 2 ((1 ∷ []) ∷ (2 ∷ 3 ∷ []) ∷ [])
+    ∷ row textP ((3 ∷ 3 ∷ 2 ∷ []) ∷ []) 1 ((1 ∷ []) ∷ [])
+    ∷ row textP ((3 ∷ 3 ∷ 2 ∷ []) ∷ (3 ∷ 7 ∷ 0 ∷ []) ∷ []) 2 ((1 ∷ 2 ∷ []) ∷ (2 ∷ 3 ∷ []) ∷ [])
+    ∷ row textP ((3 ∷ 3 ∷ 2 ∷ []) ∷ (3 ∷ 7 ∷ 0 ∷ []) ∷ []) 1 []
+    ∷ row textP ((1 ∷ 3 ∷ 0 ∷ []) ∷ []) 1 ((1 ∷ []) ∷ (2 ∷ []) ∷ [])
     ∷ row textP [] 0 ([] ∷ [])
-    ∷ row textP (unmeasured ∷ []) 0 ([] ∷ [])
+    ∷ row textP ((0 ∷ 3 ∷ []) ∷ []) 0 ([] ∷ [])
     ∷ []
 
 abbrev pub Found-as-listed : Type 0

@@ -1,8 +1,8 @@
 #!/usr/bin/env python3
-"""An independent reading of netlist texts, written from docs/FORMATS.md and docs/REFUSALS.md alone.
+"""An independent reading of netlists and test logs, written from docs/FORMATS.md and docs/REFUSALS.md alone.
 
-    netlist_reference.py FILE                   prints what `inspect` prints for that text, without the sentence
-    netlist_reference.py --compare PROGRAM [N]  makes N random texts, good and damaged, and compares with PROGRAM (target/bin/inspect)
+    inspect_reference.py FOLDER                 prints what `inspect` prints in that folder, without the sentences
+    inspect_reference.py --compare PROGRAM [N]  makes N random cases, good and damaged, and compares with PROGRAM (target/bin/inspect)
 """
 import os
 import random
@@ -111,7 +111,49 @@ def read(text):
     return inputs, gates, outputs
 
 
-def answer(text):
+def whole_bytes(bits):
+    return (bits + 7) // 8
+
+
+def bit(group, k):
+    return group[k // 8] >> (k % 8) & 1 if k // 8 < len(group) else 0
+
+
+def required(inputs, outputs, rest):
+    measured = sum(bit(rest, k) for k in range(outputs))
+    return whole_bytes(outputs) + whole_bytes(inputs) + whole_bytes(measured)
+
+
+def cut(inputs, outputs, log):
+    pieces = []
+    while log:
+        n = required(inputs, outputs, log)
+        pieces.append(log[:n])
+        log = log[n:]
+    return pieces
+
+
+def clean(group, bits):
+    return all(bit(group, k) == 0 for k in range(bits, 8 * len(group)))
+
+
+def decode(inputs, outputs, held, record):
+    if held >= 32:
+        raise Refused(11, 0, 0)
+    if len(record) != required(inputs, outputs, record):
+        raise Refused(12, 0, 0)
+    a, b = whole_bytes(outputs), whole_bytes(outputs) + whole_bytes(inputs)
+    marks, applied, values = record[:a], record[a:b], record[b:]
+    places = [k for k in range(outputs) if bit(marks, k)]
+    if not (clean(marks, outputs) and clean(applied, inputs) and clean(values, len(places))):
+        raise Refused(13, 0, 0)
+    shown = ["-"] * outputs
+    for n, k in enumerate(places):
+        shown[k] = str(bit(values, n))
+    return "".join(str(bit(applied, k)) for k in range(inputs)), "".join(shown)
+
+
+def answer(text, log):
     try:
         inputs, gates, outputs = read(text)
     except Refused as r:
@@ -119,7 +161,32 @@ def answer(text):
     lines = ["inputs %d" % len(inputs), "outputs %d" % len(outputs), "gates %d" % len(gates)]
     for kind in (b"AND", b"OR", b"NAND", b"NOR", b"XOR", b"XNOR", b"NOT"):
         lines.append("%s %d" % (kind.decode(), sum(g[2] == kind for g in gates)))
-    return lines
+    tests = []
+    try:
+        for record in cut(len(inputs), len(outputs), log):
+            tests.append(decode(len(inputs), len(outputs), len(tests), record))
+    except Refused as r:
+        return lines + ["! %d %d %d" % r.args]
+    lines.append("tests %d" % len(tests))
+    return lines + ["test %d inputs %s outputs %s" % ((k,) + t) for k, t in enumerate(tests)]
+
+
+def random_log(r, text):
+    """Records of the netlist in the text, if it is one, sometimes damaged."""
+    try:
+        inputs, gates, outputs = read(text)
+    except Refused:
+        return bytes(r.randrange(256) for _ in range(r.randrange(5)))
+    def pack(bits):
+        return bytes(sum(b << k for k, b in enumerate(bits[i:i + 8])) for i in range(0, len(bits), 8))
+    log = b""
+    for _ in range(r.choice([0, 1, 2, 5, 31, 32, 33])):
+        marks = [r.randrange(2) for _ in outputs]
+        log += pack(marks) + pack([r.randrange(2) for _ in inputs]) + pack([r.randrange(2) for _ in range(sum(marks))])
+    if r.random() < 0.3 and log:
+        i = r.randrange(len(log))
+        log = log[:i] + r.choice([b"", bytes([r.randrange(256)])]) + log[i + 1:]
+    return log
 
 
 def random_text(r):
@@ -192,27 +259,35 @@ def large_text(r):
 
 def compare(program, count):
     r = random.Random(1)
-    wrong = 0
-    taken = 0
+    wrong = taken = 0
     with tempfile.TemporaryDirectory() as folder:
-        path = os.path.join(folder, "case.net")
         for k in range(count):
             text = large_text(r) if k % 50 == 0 else r.choice([random_text, valid_text])(r)
-            with open(path, "wb") as f:
-                f.write(text)
+            log = random_log(r, text)
+            for name, content in (("case.net", text), ("case.tst", log)):
+                with open(os.path.join(folder, name), "wb") as f:
+                    f.write(content)
             out = subprocess.run([os.path.abspath(program)], cwd=folder, stdout=subprocess.PIPE).stdout.decode().splitlines()
-            want = answer(text)
-            got = out[:1] if out and out[0].startswith("!") else out
-            taken += not want[0].startswith("!")
+            want = answer(text, log)
+            # the line after a refusal is its sentence
+            got = out[:-1] if len(out) > 1 and out[-2].startswith("!") else out
+            taken += not want[-1].startswith("!")
             if got != want:
                 wrong += 1
-                print("differs:", text, "wanted", want, "got", out)
-    print("%d texts, %d of them taken, %d differ" % (count, taken, wrong))
+                print("differs:", text, log, "wanted", want, "got", out)
+    print("%d cases, %d of them taken, %d differ" % (count, taken, wrong))
     return wrong
+
+
+def content(path):
+    try:
+        with open(path, "rb") as f:
+            return f.read()
+    except FileNotFoundError:
+        return b""
 
 
 if __name__ == "__main__":
     if len(sys.argv) >= 3 and sys.argv[1] == "--compare":
         sys.exit(1 if compare(sys.argv[2], int(sys.argv[3]) if len(sys.argv) > 3 else 2000) else 0)
-    with open(sys.argv[1], "rb") as f:
-        print("\n".join(answer(f.read())))
+    print("\n".join(answer(content(os.path.join(sys.argv[1], "case.net")), content(os.path.join(sys.argv[1], "case.tst")))))
