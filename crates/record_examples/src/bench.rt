@@ -53,8 +53,9 @@ impl Bench {
         }
     }
 
-    // Records bytes, and prints the test that they gave, or the refusal.
+    // Records bytes, and prints them with the test that they gave, or the refusal.
     pub fn record(&mut self, rt: &LibcRuntime, bytes: &[u8]) -> io::Result<()> {
+        print_bytes(rt, bytes)?;
         if let Err(fault) = self.table.record(&self.circuit, bytes) {
             let refusal = fault.refusal();
             return println!(rt, "{refusal}");
@@ -72,19 +73,18 @@ impl Bench {
     }
 
     // Tries each length, from no byte to two more than there are.
-    pub fn try_lengths(&mut self, rt: &LibcRuntime, bytes: &mut Vec<u8>) -> io::Result<()> {
-        let len = bytes.len();
+    pub fn try_lengths(&mut self, rt: &LibcRuntime, record: &[u8]) -> io::Result<()> {
+        let mut bytes = Vec::from_slice(rt.alloc(), record)?;
         print!(rt, "lengths")?;
-        for n in 0..len {
+        for n in 0..record.len() {
             self.table.clear();
-            self.answer(rt, &bytes.as_slice()[0..n])?;
+            self.answer(rt, &record[0..n])?;
         }
         for _ in 0..3 {
             self.table.clear();
             self.answer(rt, bytes.as_slice())?;
             bytes.push(0)?;
         }
-        bytes.truncate(len);
         println!(rt)
     }
 
@@ -95,14 +95,15 @@ impl Bench {
     }
 
     // Tries the bytes with each bit of them turned, lowest first.
-    pub fn try_bits(&mut self, rt: &LibcRuntime, bytes: &mut Vec<u8>) -> io::Result<()> {
+    pub fn try_bits(&mut self, rt: &LibcRuntime, record: &[u8]) -> io::Result<()> {
+        let mut bytes = Vec::from_slice(rt.alloc(), record)?;
         print!(rt, "bits")?;
-        for i in 0..bytes.len() {
+        for i in 0..record.len() {
             for mask in [1u8, 2, 4, 8, 16, 32, 64, 128] {
                 self.table.clear();
-                Bench::turn(bytes, i, mask);
+                Bench::turn(&mut bytes, i, mask);
                 self.answer(rt, bytes.as_slice())?;
-                Bench::turn(bytes, i, mask);
+                Bench::turn(&mut bytes, i, mask);
             }
         }
         println!(rt)
@@ -113,7 +114,6 @@ impl Bench {
         let mut rest = log;
         while !rest.is_empty() {
             let (piece, behind) = cut(&self.circuit, rest);
-            print_bytes(rt, piece)?;
             self.record(rt, piece)?;
             rest = behind;
         }

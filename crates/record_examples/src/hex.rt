@@ -10,11 +10,11 @@ fn digit(byte: u8) -> Option<u8> {
     }
 }
 
-// The bytes that a word spells, two digits each.
-pub fn bytes_of(heap: Global, word: &str) -> Result<Vec<u8>, AllocError> {
+// The bytes that a text spells, two digits each; all else between them is passed over.
+pub fn bytes_of(heap: Global, text: &str) -> Result<Vec<u8>, AllocError> {
     let mut bytes = Vec::new(heap);
     let mut high = None;
-    for byte in word.as_bytes() {
+    for byte in text.as_bytes() {
         let Some(value) = digit(*byte) else {
             continue;
         };

@@ -8,34 +8,24 @@ use hex::bytes_of;
 use std::fs;
 use std::io;
 
-// Tries a record of a circuit with so many inputs and outputs, at every length and with every bit turned.
-fn try_record(rt: &LibcRuntime, inputs: usize, outputs: usize, record: &str) -> io::Result<()> {
-    let mut bench = Bench::new(rt.alloc(), inputs, outputs)?;
-    let mut bytes = bytes_of(rt.alloc(), record)?;
-    println!(rt, "{inputs} inputs, {outputs} outputs, {record}")?;
-    bench.record(rt, bytes.as_slice())?;
-    bench.try_lengths(rt, &mut bytes)?;
-    bench.try_bits(rt, &mut bytes)
-}
-
-// A line of the table has the numbers of inputs and outputs, and a record.
+// Tries a record at every length and with every bit turned. A line has the numbers of inputs and outputs, a byte each, and the record.
 fn try_line(rt: &LibcRuntime, line: &str) -> io::Result<()> {
-    let mut words = line.split_whitespace();
-    let (Some(inputs), Some(outputs), Some(record)) = (words.next(), words.next(), words.next())
-    else {
+    let bytes = bytes_of(rt.alloc(), line)?;
+    let [inputs, outputs, record @ ..] = bytes.as_slice() else {
         return Ok(());
     };
-    let (Ok(inputs), Ok(outputs)) = (inputs.parse::<usize>(), outputs.parse::<usize>()) else {
-        return Ok(());
-    };
-    try_record(rt, inputs, outputs, record)
+    println!(rt, "{inputs} inputs, {outputs} outputs")?;
+    let mut bench = Bench::new(rt.alloc(), *inputs as usize, *outputs as usize)?;
+    bench.record(rt, record)?;
+    bench.try_lengths(rt, record)?;
+    bench.try_bits(rt, record)
 }
 
 // Records a log, then amends tests of it, and strikes more than there are.
 fn try_log(rt: &LibcRuntime) -> io::Result<()> {
     let log = bytes_of(rt.alloc(), "03030203070001030000030303")?;
     let mut bench = Bench::new(rt.alloc(), 3, 2)?;
-    println!(rt, "3 inputs, 2 outputs, a log")?;
+    println!(rt, "a log")?;
     bench.record_log(rt, log.as_slice())?;
     for (test, output, value) in [
         (0, 1, 1),

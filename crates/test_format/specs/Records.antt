@@ -45,6 +45,7 @@ unfoldable pub ones : List Bool → ℕ
 ones [] = 0
 ones (b ∷ bs) = cond b 1 0 + ones bs
 
+-- bytes that end inside their map are fewer than the map alone takes, so never of this length
 abbrev pub recordLength : ℕ → ℕ → List ℕ → ℕ
 recordLength I O bytes = bytesFor O + bytesFor I + bytesFor (ones (mapOf O bytes))
 
@@ -63,7 +64,7 @@ clear n group = all not (drop n (unpack group))
 abbrev pub allClear : ℕ → ℕ → List ℕ → Bool
 allClear I O bytes = clear O (mapGroup O bytes) && (clear I (inputGroup I O bytes) && clear (ones (mapOf O bytes)) (valueGroup I O bytes))
 
--- each output whose bit is set in the map has the next of the values
+-- each output whose bit is set in the map has the next of the values; bytes of the right length have a value for each
 unfoldable pub filled : List Bool → List Bool → List (Option Bool)
 filled [] vs = []
 filled (false ∷ ms) vs = None ∷ filled ms vs

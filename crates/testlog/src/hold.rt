@@ -61,7 +61,7 @@ impl TestTable {
     pub fn record(&mut self, circuit: &Circuit, bytes: &[u8]) -> Result<(), RecordFault>
         ensures refused { λ r. ⌜ mapped refusalOf (errPart r) ≡ errPart (recorded (circuitOf (now (circuit .entry))) (testsOf (now (self .entry))) (now (bytes .entry))) ⌝ }
         ensures after { λ _. ⌜ testsOf (now (self .exit)) ≡ kept (testsOf (now (self .entry))) (recorded (circuitOf (now (circuit .entry))) (testsOf (now (self .entry))) (now (bytes .entry))) ⌝ }
-        ensures one { λ r. ⌜ made r (λ _. Recorded (circuitOf (now (circuit .entry))) (testsOf (now (self .entry))) (testsOf (now (self .exit))) (now (bytes .entry))) ⌝ }
+        ensures change { λ r. ⌜ made r (λ _. Recorded (circuitOf (now (circuit .entry))) (testsOf (now (self .entry))) (testsOf (now (self .exit))) (now (bytes .entry))) ⌝ }
     {
         if self.tests.len() >= TESTS {
             return Err(RecordFault::Full);
@@ -75,7 +75,7 @@ impl TestTable {
     pub fn amend(&mut self, test: usize, output: usize, value: u8) -> Result<(), RecordFault>
         ensures refused { λ r. ⌜ mapped refusalOf (errPart r) ≡ errPart (amended (testsOf (now (self .entry))) test output value) ⌝ }
         ensures after { λ _. ⌜ testsOf (now (self .exit)) ≡ kept (testsOf (now (self .entry))) (amended (testsOf (now (self .entry))) test output value) ⌝ }
-        ensures one { λ r. ⌜ made r (λ _. Amended (testsOf (now (self .entry))) (testsOf (now (self .exit))) test output value) ⌝ }
+        ensures change { λ r. ⌜ made r (λ _. Amended (testsOf (now (self .entry))) (testsOf (now (self .exit))) test output value) ⌝ }
     {
         let Some(reading) = reading(value) else {
             return Err(RecordFault::Amendment);
@@ -90,7 +90,7 @@ impl TestTable {
     pub fn strike(&mut self) -> Result<(), RecordFault>
         ensures refused { λ r. ⌜ mapped refusalOf (errPart r) ≡ errPart (struck (testsOf (now (self .entry)))) ⌝ }
         ensures after { λ _. ⌜ testsOf (now (self .exit)) ≡ kept (testsOf (now (self .entry))) (struck (testsOf (now (self .entry)))) ⌝ }
-        ensures one { λ r. ⌜ made r (λ _. Struck (testsOf (now (self .entry))) (testsOf (now (self .exit)))) ⌝ }
+        ensures change { λ r. ⌜ made r (λ _. Struck (testsOf (now (self .entry))) (testsOf (now (self .exit)))) ⌝ }
     {
         let held = self.tests.len();
         if held == 0 {

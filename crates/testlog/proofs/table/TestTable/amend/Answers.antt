@@ -24,7 +24,7 @@ returns-then-test-len c =
     elim (c .then-test-len .came) [
       | then-test-len·by·then-test-len w ↦
           let nowhere = amended-nowhere ts (c .args .test) (c .args .output) (c .args .value) (c .in-Some .reading) (c .in-Some .ensures tt) (omega (arith, w .if-test-len .taken, c .len .ensures)) in
-          record { refused = sym (ap errPart nowhere); after = ap testsOf (w .self-is) ∙ sym (ap (kept ts) nowhere); one = tt }
+          record { refused = sym (ap errPart nowhere); after = ap testsOf (w .self-is) ∙ sym (ap (kept ts) nowhere); change = tt }
       | then-test-len·by·else-test-len·then-not-amend w ↦
           let k = c .args .test in
           let t = w .index-mut .result .now in
@@ -38,7 +38,7 @@ returns-then-test-len c =
                 ∙ ap (set ts k) (w .if-not-amend .ensures tt .after)
                 ∙ set-nth ts k (testOf t) here
                 ∙ sym (ap (kept ts) no-such);
-            one = tt;
+            change = tt;
           }
     ]
 
@@ -55,5 +55,5 @@ returns c =
     record {
       refused = sym (ap errPart changed);
       after = held ∙ sym (ap (kept ts) changed);
-      one = amends-one ts (map testOf (set (vec-items v) k (c .amend .last .self))) k (c .args .output) (c .args .value) (changed ∙ ap Ok (sym held));
+      change = amends-one ts (map testOf (set (vec-items v) k (c .amend .last .self))) k (c .args .output) (c .args .value) (changed ∙ ap Ok (sym held));
     }

@@ -25,7 +25,7 @@ returns-then-len-ge-TESTS c =
     let ts = testsOf (c .args .self .now) in
     let many : c .len .result ≡ length ts = c .len .ensures ∙ v .ok .0 ∙ sym (length-map (vec-items v) testOf) in
     let full = recorded-full (circuitOf (c .args .circuit .now)) ts (c .args .bytes .now) (c .len .result) many (omega (arith, c .if-len-ge-TESTS .taken)) in
-    record { refused = sym (ap errPart full); after = sym (ap (kept ts) full); one = tt }
+    record { refused = sym (ap errPart full); after = sym (ap (kept ts) full); change = tt }
 
 pub returns-in-Break-test : need.returns-in-Break-test
 returns-in-Break-test c =
@@ -34,7 +34,7 @@ returns-in-Break-test c =
     let many : c .len .result ≡ length ts = c .len .ensures ∙ v .ok .0 ∙ sym (length-map (vec-items v) testOf) in
     let bad = recorded-joined (circuitOf (c .args .circuit .now)) ts (c .args .bytes .now) (c .len .result) _ many (omega (arith, c .if-len-ge-TESTS .left)) (c .in-Break-test .ensures tt) in
     let p = err-from-errBy (c .from-residual .result) (c .from-residual .ensures .1) in
-    record { refused = ap (λ r. mapped refusalOf (errPart r)) (p .1) ∙ ap (λ (f : RecordFault). errPart (joinedBy ts (Err (refusalOf f)))) (p .2) ∙ sym (ap errPart bad); after = sym (ap (kept ts) bad); one = made-from-err (c .from-residual .result) _ (ap isErr (p .1)) }
+    record { refused = ap (λ r. mapped refusalOf (errPart r)) (p .1) ∙ ap (λ (f : RecordFault). errPart (joinedBy ts (Err (refusalOf f)))) (p .2) ∙ sym (ap errPart bad); after = sym (ap (kept ts) bad); change = made-from-err (c .from-residual .result) _ (ap isErr (p .1)) }
 
 pub returns : need.returns
 returns c =
@@ -47,5 +47,5 @@ returns c =
     record {
       refused = sym (ap errPart good);
       after = last ∙ sym (ap (kept ts) good);
-      one = record { test = testOf (c .in-Continue-test .test); last = last; fits = law .0; as-written = law .1 };
+      change = record { test = testOf (c .in-Continue-test .test); last = last; fits = law .0; as-written = law .1 };
     }

@@ -20,7 +20,7 @@ returns-then-held-eq0 c =
     let ts = testsOf (c .args .self .now) in
     let many : c .len-held .result ≡ length ts = c .len-held .ensures ∙ v .ok .0 ∙ sym (length-map (vec-items v) testOf) in
     let none = struck-none ts (c .len-held .result) many (c .if-held-eq0 .taken) in
-    record { refused = sym (ap errPart none); after = sym (ap (kept ts) none); one = tt }
+    record { refused = sym (ap errPart none); after = sym (ap (kept ts) none); change = tt }
 
 pub returns : need.returns
 returns c =
@@ -34,5 +34,5 @@ returns c =
     record {
       refused = sym (ap errPart struck-is);
       after = left ∙ sym (ap (kept ts) struck-is);
-      one = subst (λ (l : List Test). Struck ts l) (sym left) (struck-one ts n many some);
+      change = subst (λ (l : List Test). Struck ts l) (sym left) (struck-one ts n many some);
     }
