@@ -1,0 +1,190 @@
+// Lists of the clauses that name a variable. They are hints: each step checks the clause that they lead to.
+ghost use mathlib.Core.Path.{_≡_};
+ghost use Prim.Native.Nat.{ℕ, _+_, _-_, _*_, _<_, _≤_};
+ghost use lib.ListN.{length, getD, set};
+ghost use mathlib.Core.Bool.{true};
+ghost use Rattle.solver.specs.Rows.{all-named};
+ghost use Rattle.assignment.specs.Stored.{Ranged, Stored-true};
+ghost use Rattle.assignment.specs.Statuses.{Hinted, Tells};
+ghost use Rattle.ternary.specs.Stands.{Sound};
+ghost use Rattle.ternary.specs.Search.{Same, Sought, values-of};
+use super::TernarySearch;
+use super::status::clause_status;
+use super::status::examine;
+use assignment::Finding;
+use assignment::Status;
+
+// Makes the lists, if there is room: a first place for each variable, then a next place for each place of a clause.
+pub fn list_occurrences(s: &mut TernarySearch) -> bool
+    requires { ⌜ Sound (now s) ⌝ }
+    ensures sound { λ _. ⌜ Sound (now (s .exit)) ⌝ }
+    ensures same { λ _. ⌜ Same (now (s .entry)) (now (s .exit)) ⌝ }
+{
+    let vars = s.vars;
+    let places = 3 * s.count;
+    if vars + places > s.occurrences.len() {
+        return false;
+    }
+    for v in 0..vars {
+        s.occurrences[v] = 0;
+    }
+    for e in 0..places {
+        let v = s.clauses[e].unsigned_abs() as usize;
+        if v > 0 && v <= vars {
+            s.occurrences[vars + e] = s.occurrences[v - 1];
+            s.occurrences[v - 1] = (e + 1) as i32;
+        }
+    }
+    true
+}
+
+// The clause that the place e is in tells, if it is one of the first `count`.
+fn hinted_clause(clauses: &[i32], count: usize, values: &[i32], e: usize) -> Status
+    requires room { ⌜ 3 * count ≤ length (now clauses) ⌝ }
+    requires ranged { ⌜ Ranged (now clauses) count (length (now values)) ⌝ }
+    ensures { λ r. ⌜ Hinted (now (values .entry)) (λ row. Stored-true row (now (clauses .entry)) count) r ⌝ }
+{
+    let k = e / 3;
+    if k < count {
+        clause_status(
+            values,
+            clauses[3 * k],
+            clauses[3 * k + 1],
+            clauses[3 * k + 2],
+        )
+    } else {
+        Status::Satisfied
+    }
+}
+
+// What the clauses on a variable's list tell, if one of them is broken or forces a literal.
+fn follow_list(
+    clauses: &[i32],
+    count: usize,
+    values: &[i32],
+    occurrences: &[i32],
+    vars: usize,
+    v: usize,
+) -> Status
+    requires room { ⌜ 3 * count ≤ length (now clauses) ⌝ }
+    requires ranged { ⌜ Ranged (now clauses) count (length (now values)) ⌝ }
+    ensures { λ r. ⌜ Hinted (now (values .entry)) (λ row. Stored-true row (now (clauses .entry)) count) r ⌝ }
+{
+    let mut i = v;
+    for _turn in 0..count {
+        if i >= occurrences.len() {
+            return Status::Satisfied;
+        }
+        let e = occurrences[i].unsigned_abs() as usize;
+        if e == 0 {
+            return Status::Satisfied;
+        }
+        match hinted_clause(clauses, count, values, e - 1) {
+            Status::Conflict => return Status::Conflict,
+            Status::Forced(literal) => return Status::Forced(literal),
+            _ => {}
+        }
+        if e > occurrences.len() {
+            return Status::Satisfied;
+        }
+        if vars > occurrences.len() {
+            return Status::Satisfied;
+        }
+        i = vars + (e - 1);
+    }
+    Status::Satisfied
+}
+
+// What the lists of the entries head .. len lead to.
+fn propagate(
+    clauses: &[i32],
+    count: usize,
+    values: &[i32],
+    occurrences: &[i32],
+    vars: usize,
+    trail: &[i32],
+    head: usize,
+    len: usize,
+) -> Finding
+    requires room { ⌜ 3 * count ≤ length (now clauses) ⌝ }
+    requires ranged { ⌜ Ranged (now clauses) count (length (now values)) ⌝ }
+    requires within { ⌜ len ≤ length (now trail) ⌝ }
+    ensures { λ r. ⌜ Hinted (now (values .entry)) (λ row. Stored-true row (now (clauses .entry)) count) (r .status) ⌝ }
+{
+    for h in head..len {
+        let v = trail[h].unsigned_abs() as usize;
+        if v > 0 {
+            match follow_list(clauses, count, values, occurrences, vars, v - 1) {
+                Status::Conflict => return Finding {
+                    status: Status::Conflict,
+                    at: h,
+                },
+                Status::Forced(literal) => return Finding {
+                    status: Status::Forced(literal),
+                    at: h,
+                },
+                _ => {}
+            }
+        }
+    }
+    Finding {
+        status: Status::Satisfied,
+        at: len,
+    }
+}
+
+// What there is to do next, and where to go on from there.
+#[derive(Clone, Copy)]
+pub struct Next {
+    pub status: Status,
+    pub from: usize,
+    pub head: usize,
+}
+
+// What there is to do next: where the lists lead, or else what a look at all tells.
+// Where to begin, from, and the first entry not followed yet, head, are hints.
+pub fn next_step(
+    s: &TernarySearch,
+    assumed: &[i32],
+    quick: bool,
+    from: usize,
+    head: usize,
+    len: usize,
+) -> Next
+    requires sound { ⌜ Sound (now s) ⌝ }
+    requires named { ⌜ all-named (now s .vars) (now assumed) ≡ true ⌝ }
+    requires within { ⌜ len ≤ now s .capacity ⌝ }
+    ensures { λ r. ⌜ Tells (values-of (now (s .entry))) (Sought (now (s .entry)) (now (assumed .entry))) (r .status) ⌝ }
+{
+    let start = if quick { head } else { len };
+    let near = propagate(
+        s.clauses,
+        s.count,
+        s.values,
+        s.occurrences,
+        s.vars,
+        s.trail,
+        start,
+        len,
+    );
+    match near.status {
+        Status::Conflict => Next {
+            status: Status::Conflict,
+            from,
+            head: near.at,
+        },
+        Status::Forced(literal) => Next {
+            status: Status::Forced(literal),
+            from,
+            head: near.at,
+        },
+        _ => {
+            let far = examine(s, assumed, quick, from);
+            Next {
+                status: far.status,
+                from: far.at,
+                head: len,
+            }
+        }
+    }
+}
