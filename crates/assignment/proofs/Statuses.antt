@@ -37,54 +37,54 @@ pub named-within : (vars : ℕ) (x : ℤ) → named vars x ≡ true → natAbs x
 named-within vars x h = leb-true (natAbs x) vars (and-parts (ltb 0 (natAbs x)) (leb (natAbs x) vars) h .1)
 
 -- what is told of two properties, the second of which the row of the values has
-pub tells-scan : (vs : List ℤ) (P Q : Row → Type 0) → Q (row-of vs) → (s : Status) → Tells vs P s → Tells vs (λ row. P row × Q row) s
-tells-scan vs P Q q Satisfied t = (t, q)
-tells-scan vs P Q q Conflict t = λ row e h. t row e (h .0)
-tells-scan vs P Q q (Forced x) t = (t .0, λ row e h. t .1 row e (h .0))
-tells-scan vs P Q q (Open x) t = t
+pub tells-first-of-two : (vs : List ℤ) (P Q : Row → Type 0) → Q (row-of vs) → (s : Status) → Tells vs P s → Tells vs (λ row. P row × Q row) s
+tells-first-of-two vs P Q q Satisfied t = (t, q)
+tells-first-of-two vs P Q q Conflict t = λ row e h. t row e (h .0)
+tells-first-of-two vs P Q q (Forced x) t = (t .0, λ row e h. t .1 row e (h .0))
+tells-first-of-two vs P Q q (Open x) t = t
 
 -- what is told of the second, unless the row of the values has it
-pub tells-look : (vs : List ℤ) (P Q : Row → Type 0) (s : Status) → (s ≡ Satisfied → ⊥) → Tells vs Q s → Tells vs (λ row. P row × Q row) s
-tells-look vs P Q Satisfied n t = absurd (n refl)
-tells-look vs P Q Conflict n t = λ row e h. t row e (h .1)
-tells-look vs P Q (Forced x) n t = (t .0, λ row e h. t .1 row e (h .1))
-tells-look vs P Q (Open x) n t = t
+pub tells-second-of-two : (vs : List ℤ) (P Q : Row → Type 0) (s : Status) → (s ≡ Satisfied → ⊥) → Tells vs Q s → Tells vs (λ row. P row × Q row) s
+tells-second-of-two vs P Q Satisfied n t = absurd (n refl)
+tells-second-of-two vs P Q Conflict n t = λ row e h. t row e (h .1)
+tells-second-of-two vs P Q (Forced x) n t = (t .0, λ row e h. t .1 row e (h .1))
+tells-second-of-two vs P Q (Open x) n t = t
 
 -- What a scan from a clause on knows at clause k: all clauses so far are true, or there is an open literal.
 abbrev pub Scanned : List ℤ → List ℤ → ℕ → ℕ → ℤ → Type 0
 Scanned vs xs from k o = (o ≡ pos 0 → Between (row-of vs) xs from k) × ((o ≡ pos 0 → ⊥) → Free vs o)
 
-pub scanned-met : (vs xs : List ℤ) (from k : ℕ) (o : ℤ) → Scanned vs xs from k o → stored-true (row-of vs) xs k ≡ true → Scanned vs xs from (k + 1) o
-scanned-met vs xs from k o h t = ((λ z j a b. ⊎-elim (λ (e : j ≡ k). ap (stored-true (row-of vs) xs) e ∙ t) (λ (ne : j ≡ k → ⊥). h .0 z j a (omega (arith, ne))) (cases-eq j k)), h .1)
+pub scanned-satisfied : (vs xs : List ℤ) (from k : ℕ) (o : ℤ) → Scanned vs xs from k o → stored-true (row-of vs) xs k ≡ true → Scanned vs xs from (k + 1) o
+scanned-satisfied vs xs from k o h t = ((λ z j a b. ⊎-elim (λ (e : j ≡ k). ap (stored-true (row-of vs) xs) e ∙ t) (λ (ne : j ≡ k → ⊥). h .0 z j a (omega (arith, ne))) (cases-eq j k)), h .1)
 
-pub scanned-choose : (vs xs : List ℤ) (from k : ℕ) (x : ℤ) → Free vs x → Scanned vs xs from k x
-scanned-choose vs xs from k x f = ((λ z. absurd (let n = f .some in let e : natAbs x ≡ 0 = ap natAbs z in omega (arith, n, e))), λ _. f)
+pub scanned-open : (vs xs : List ℤ) (from k : ℕ) (x : ℤ) → Free vs x → Scanned vs xs from k x
+scanned-open vs xs from k x f = ((λ z. absurd (let n = f .some in let e : natAbs x ≡ 0 = ap natAbs z in omega (arith, n, e))), λ _. f)
 
 pub scanned-kept : (vs xs : List ℤ) (from k : ℕ) (o : ℤ) → Scanned vs xs from k o → (o ≡ pos 0 → ⊥) → Scanned vs xs from (k + 1) o
-scanned-kept vs xs from k o h n = scanned-choose vs xs from (k + 1) o (h .1 n)
+scanned-kept vs xs from k o h n = scanned-open vs xs from (k + 1) o (h .1 n)
 
 -- a scan in two parts
 module _ (vs xs : List ℤ) (mid count : ℕ) where
-  pub scan-range-late : mid ≤ count → (s : Status) → (s ≡ Satisfied → ⊥) → Tells vs (λ row. Between row xs mid count) s → Tells vs (λ row. Stored-true row xs count) s
-  scan-range-late l Satisfied n t = absurd (n refl)
-  scan-range-late l Conflict n t = λ row e h. t row e (λ k a b. h k b)
-  scan-range-late l (Forced x) n t = (t .0, λ row e h. t .1 row e (λ k a b. h k b))
-  scan-range-late l (Open x) n t = t
+  pub tells-late-part : mid ≤ count → (s : Status) → (s ≡ Satisfied → ⊥) → Tells vs (λ row. Between row xs mid count) s → Tells vs (λ row. Stored-true row xs count) s
+  tells-late-part l Satisfied n t = absurd (n refl)
+  tells-late-part l Conflict n t = λ row e h. t row e (λ k a b. h k b)
+  tells-late-part l (Forced x) n t = (t .0, λ row e h. t .1 row e (λ k a b. h k b))
+  tells-late-part l (Open x) n t = t
 
-  scan-range-met : (r : Status) → Between (row-of vs) xs 0 mid → Tells vs (λ row. Between row xs mid count) r → Tells vs (λ row. Stored-true row xs count) r
-  scan-range-met Satisfied t u = λ k b. ⊎-elim (λ (a : k < mid). t k (omega arith) a) (λ (a : mid ≤ k). u k a b) (cases-lt k mid)
-  scan-range-met Conflict t u = λ row e h. u row e (λ k a b. h k b)
-  scan-range-met (Forced x) t u = (u .0, λ row e h. u .1 row e (λ k a b. h k b))
-  scan-range-met (Open x) t u = u
+  tells-late-part-too : (r : Status) → Between (row-of vs) xs 0 mid → Tells vs (λ row. Between row xs mid count) r → Tells vs (λ row. Stored-true row xs count) r
+  tells-late-part-too Satisfied t u = λ k b. ⊎-elim (λ (a : k < mid). t k (omega arith) a) (λ (a : mid ≤ k). u k a b) (cases-lt k mid)
+  tells-late-part-too Conflict t u = λ row e h. u row e (λ k a b. h k b)
+  tells-late-part-too (Forced x) t u = (u .0, λ row e h. u .1 row e (λ k a b. h k b))
+  tells-late-part-too (Open x) t u = u
 
-  scan-range-first : mid ≤ count → (s : Status) (early late : Finding) → early .status ≡ s → Tells vs (λ row. Between row xs 0 mid) s → Tells vs (λ row. Between row xs mid count) (late .status) → Tells vs (λ row. Stored-true row xs count) (first-unless-satisfied s early late .status)
-  scan-range-first l Satisfied early late q t u = scan-range-met (late .status) t u
-  scan-range-first l Conflict early late q t u = rw q (λ row e h. t row e (λ k a b. h k (omega arith)))
-  scan-range-first l (Forced x) early late q t u = rw q (t .0, λ row e h. t .1 row e (λ k a b. h k (omega arith)))
-  scan-range-first l (Open x) early late q t u = rw q t
+  tells-early-part : mid ≤ count → (s : Status) (early late : Finding) → early .status ≡ s → Tells vs (λ row. Between row xs 0 mid) s → Tells vs (λ row. Between row xs mid count) (late .status) → Tells vs (λ row. Stored-true row xs count) (first-unless-satisfied s early late .status)
+  tells-early-part l Satisfied early late q t u = tells-late-part-too (late .status) t u
+  tells-early-part l Conflict early late q t u = rw q (λ row e h. t row e (λ k a b. h k (omega arith)))
+  tells-early-part l (Forced x) early late q t u = rw q (t .0, λ row e h. t .1 row e (λ k a b. h k (omega arith)))
+  tells-early-part l (Open x) early late q t u = rw q t
 
-  pub scan-range-first-unsatisfied : mid ≤ count → (early late : Finding) → Tells vs (λ row. Between row xs 0 mid) (early .status) → Tells vs (λ row. Between row xs mid count) (late .status) → Tells vs (λ row. Stored-true row xs count) (first-finding early late .status)
-  scan-range-first-unsatisfied l early late t u = scan-range-first l (early .status) early late refl t u
+  pub tells-both-parts : mid ≤ count → (early late : Finding) → Tells vs (λ row. Between row xs 0 mid) (early .status) → Tells vs (λ row. Between row xs mid count) (late .status) → Tells vs (λ row. Stored-true row xs count) (first-finding early late .status)
+  tells-both-parts l early late t u = tells-early-part l (early .status) early late refl t u
 
 -- what one clause tells, all clauses tell
 pub hinted-one : (vs xs : List ℤ) (count k : ℕ) → k < count → (s : Status) → Tells vs (λ row. stored-true row xs k ≡ true) s → Hinted vs (λ row. Stored-true row xs count) s

@@ -7,7 +7,6 @@ ghost use Rattle.solver.specs.Meaning.{New};
 ghost use Rattle.assignment.specs.Stored.{triple-set};
 ghost use Rattle.ternary.specs.Stands.{sizes-over, stands, Sound, bounded};
 use super::TernarySearch;
-use super::search::search;
 use solver::Solver;
 use solver::SolverFault;
 use solver::all_named;
@@ -109,7 +108,7 @@ pub impl<'a> Solver for TernarySearch<'a> as TernarySearchSolver {
         if !all_named(self.vars, assumed) {
             return Err(SolverFault::UnknownVariable);
         }
-        let found = search(self, assumed);
+        let found = self.search(assumed);
         self.found = found;
         Ok(found)
     }

@@ -10,32 +10,33 @@ ghost use Rattle.ternary.specs.Stands.{Sound};
 ghost use Rattle.ternary.specs.Search.{Same, Sought, values-of};
 use super::TernarySearch;
 use super::status::clause_status;
-use super::status::examine;
 use assignment::Finding;
 use assignment::Status;
 
-// Makes the lists, if there is room: a first place for each variable, then a next place for each place of a clause.
-pub fn list_occurrences(s: &mut TernarySearch) -> bool
-    requires { ⌜ Sound (now s) ⌝ }
-    ensures sound { λ _. ⌜ Sound (now (s .exit)) ⌝ }
-    ensures same { λ _. ⌜ Same (now (s .entry)) (now (s .exit)) ⌝ }
-{
-    let vars = s.vars;
-    let places = 3 * s.count;
-    if vars + places > s.occurrences.len() {
-        return false;
-    }
-    for v in 0..vars {
-        s.occurrences[v] = 0;
-    }
-    for e in 0..places {
-        let v = s.clauses[e].unsigned_abs() as usize;
-        if v > 0 && v <= vars {
-            s.occurrences[vars + e] = s.occurrences[v - 1];
-            s.occurrences[v - 1] = (e + 1) as i32;
+impl<'a> TernarySearch<'a> {
+    // Makes the lists, if there is room: a first place for each variable, then a next place for each place of a clause.
+    pub(crate) fn list_occurrences(&mut self) -> bool
+        requires { ⌜ Sound (now self) ⌝ }
+        ensures sound { λ _. ⌜ Sound (now (self .exit)) ⌝ }
+        ensures same { λ _. ⌜ Same (now (self .entry)) (now (self .exit)) ⌝ }
+    {
+        let vars = self.vars;
+        let places = 3 * self.count;
+        if vars + places > self.occurrences.len() {
+            return false;
         }
+        for v in 0..vars {
+            self.occurrences[v] = 0;
+        }
+        for e in 0..places {
+            let v = self.clauses[e].unsigned_abs() as usize;
+            if v > 0 && v <= vars {
+                self.occurrences[vars + e] = self.occurrences[v - 1];
+                self.occurrences[v - 1] = (e + 1) as i32;
+            }
+        }
+        true
     }
-    true
 }
 
 // The clause that the place e is in tells, if it is one of the first `count`.
@@ -141,49 +142,51 @@ pub struct Next {
     pub head: usize,
 }
 
-// What there is to do next: where the lists lead, or else what a look at all tells.
-// Where to begin, from, and the first entry not followed yet, head, are hints.
-pub fn next_step(
-    s: &TernarySearch,
-    assumed: &[i32],
-    quick: bool,
-    from: usize,
-    head: usize,
-    len: usize,
-) -> Next
-    requires sound { ⌜ Sound (now s) ⌝ }
-    requires named { ⌜ all-named (now s .vars) (now assumed) ≡ true ⌝ }
-    requires within { ⌜ len ≤ now s .capacity ⌝ }
-    ensures { λ r. ⌜ Tells (values-of (now (s .entry))) (Sought (now (s .entry)) (now (assumed .entry))) (r .status) ⌝ }
-{
-    let start = if quick { head } else { len };
-    let near = propagate(
-        s.clauses,
-        s.count,
-        s.values,
-        s.occurrences,
-        s.vars,
-        s.trail,
-        start,
-        len,
-    );
-    match near.status {
-        Status::Conflict => Next {
-            status: Status::Conflict,
-            from,
-            head: near.at,
-        },
-        Status::Forced(literal) => Next {
-            status: Status::Forced(literal),
-            from,
-            head: near.at,
-        },
-        _ => {
-            let far = examine(s, assumed, quick, from);
-            Next {
-                status: far.status,
-                from: far.at,
-                head: len,
+impl<'a> TernarySearch<'a> {
+    // What there is to do next: where the lists lead, or else what a look at all tells.
+    // Where to begin, from, and the first entry not followed yet, head, are hints.
+    pub(crate) fn next_step(
+        &self,
+        assumed: &[i32],
+        quick: bool,
+        from: usize,
+        head: usize,
+        len: usize,
+    ) -> Next
+        requires sound { ⌜ Sound (now self) ⌝ }
+        requires named { ⌜ all-named (now self .vars) (now assumed) ≡ true ⌝ }
+        requires within { ⌜ len ≤ now self .capacity ⌝ }
+        ensures { λ r. ⌜ Tells (values-of (now (self .entry))) (Sought (now (self .entry)) (now (assumed .entry))) (r .status) ⌝ }
+    {
+        let start = if quick { head } else { len };
+        let near = propagate(
+            self.clauses,
+            self.count,
+            self.values,
+            self.occurrences,
+            self.vars,
+            self.trail,
+            start,
+            len,
+        );
+        match near.status {
+            Status::Conflict => Next {
+                status: Status::Conflict,
+                from,
+                head: near.at,
+            },
+            Status::Forced(literal) => Next {
+                status: Status::Forced(literal),
+                from,
+                head: near.at,
+            },
+            _ => {
+                let far = self.examine(assumed, quick, from);
+                Next {
+                    status: far.status,
+                    from: far.at,
+                    head: len,
+                }
             }
         }
     }

@@ -10,52 +10,50 @@ ghost use Rattle.assignment.specs.Assignment.{row-of};
 ghost use Rattle.ternary.specs.Stands.{Sound};
 ghost use Rattle.ternary.specs.Search.{Same, Sought, values-of};
 use super::TernarySearch;
-use super::occurrences::list_occurrences;
-use super::occurrences::next_step;
-use super::trail::assign;
-use super::trail::backtrack;
 use super::trail::clear;
 use super::trail::negated;
 use assignment::Status;
 
-// Whether a row is sought; the values then stand for one.
-pub fn search(s: &mut TernarySearch, assumed: &[i32]) -> bool
-    requires sound { ⌜ Sound (now s) ⌝ }
-    requires named { ⌜ all-named (now s .vars) (now assumed) ≡ true ⌝ }
-    ensures sound { λ _. ⌜ Sound (now (s .exit)) ⌝ }
-    ensures same { λ _. ⌜ Same (now (s .entry)) (now (s .exit)) ⌝ }
-    ensures answer { λ r. ⌜ When r (Sought (now (s .entry)) (now (assumed .entry)) (row-of (values-of (now (s .exit))))) ((row : Row) → Sought (now (s .entry)) (now (assumed .entry)) row → ⊥) ⌝ }
-{
-    let listed = list_occurrences(s);
-    clear(s.values);
-    let mut len = 0;
-    let mut from = 0;
-    let mut head = 0;
-    let mut quick = false;
-    loop {
-        let next = next_step(s, assumed, quick, from, head, len);
-        from = next.from;
-        head = next.head;
-        match next.status {
-            Status::Satisfied => return true,
-            Status::Conflict => match backtrack(s, len) {
-                None => return false,
-                Some(p) => {
-                    let literal = negated(s.trail[p]);
-                    assign(s, p, literal, 0);
-                    len = p + 1;
-                    from = 0;
-                    head = p;
+impl<'a> TernarySearch<'a> {
+    // Whether a row is sought; the values then stand for one.
+    pub(crate) fn search(&mut self, assumed: &[i32]) -> bool
+        requires sound { ⌜ Sound (now self) ⌝ }
+        requires named { ⌜ all-named (now self .vars) (now assumed) ≡ true ⌝ }
+        ensures sound { λ _. ⌜ Sound (now (self .exit)) ⌝ }
+        ensures same { λ _. ⌜ Same (now (self .entry)) (now (self .exit)) ⌝ }
+        ensures answer { λ r. ⌜ When r (Sought (now (self .entry)) (now (assumed .entry)) (row-of (values-of (now (self .exit))))) ((row : Row) → Sought (now (self .entry)) (now (assumed .entry)) row → ⊥) ⌝ }
+    {
+        let listed = self.list_occurrences();
+        clear(self.values);
+        let mut len = 0;
+        let mut from = 0;
+        let mut head = 0;
+        let mut quick = false;
+        loop {
+            let next = self.next_step(assumed, quick, from, head, len);
+            from = next.from;
+            head = next.head;
+            match next.status {
+                Status::Satisfied => return true,
+                Status::Conflict => match self.backtrack(len) {
+                    None => return false,
+                    Some(p) => {
+                        let literal = negated(self.trail[p]);
+                        self.assign(p, literal, 0);
+                        len = p + 1;
+                        from = 0;
+                        head = p;
+                    }
+                },
+                Status::Forced(literal) => {
+                    self.assign(len, literal, 0);
+                    len += 1;
                 }
-            },
-            Status::Forced(literal) => {
-                assign(s, len, literal, 0);
-                len += 1;
-            }
-            Status::Open(literal) => {
-                assign(s, len, literal, 1);
-                len += 1;
-                quick = listed;
+                Status::Open(literal) => {
+                    self.assign(len, literal, 1);
+                    len += 1;
+                    quick = listed;
+                }
             }
         }
     }

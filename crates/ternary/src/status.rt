@@ -156,15 +156,17 @@ fn assumed_status(assumed: &[i32], values: &[i32]) -> Status
     Status::Satisfied
 }
 
-// What the assumed literals tell, or else the clauses, beginning with clause from.
-pub fn examine(s: &TernarySearch, assumed: &[i32], quick: bool, from: usize) -> Finding
-    requires sound { ⌜ Sound (now s) ⌝ }
-    requires named { ⌜ all-named (now s .vars) (now assumed) ≡ true ⌝ }
-    ensures { λ r. ⌜ Tells (values-of (now (s .entry))) (Sought (now (s .entry)) (now (assumed .entry))) (r .status) ⌝ }
-{
-    let status = assumed_status(assumed, s.values);
-    match status {
-        Status::Satisfied => scan(s.clauses, quick, s.count, s.values, from),
-        _ => Finding { status, at: from },
+impl<'a> TernarySearch<'a> {
+    // What the assumed literals tell, or else the clauses, beginning with clause from.
+    pub(crate) fn examine(&self, assumed: &[i32], quick: bool, from: usize) -> Finding
+        requires sound { ⌜ Sound (now self) ⌝ }
+        requires named { ⌜ all-named (now self .vars) (now assumed) ≡ true ⌝ }
+        ensures { λ r. ⌜ Tells (values-of (now (self .entry))) (Sought (now (self .entry)) (now (assumed .entry))) (r .status) ⌝ }
+    {
+        let status = assumed_status(assumed, self.values);
+        match status {
+            Status::Satisfied => scan(self.clauses, quick, self.count, self.values, from),
+            _ => Finding { status, at: from },
+        }
     }
 }

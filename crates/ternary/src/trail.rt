@@ -19,44 +19,48 @@ pub fn clear(places: &mut [i32])
     }
 }
 
-// Sets a literal behind the first len entries.
-pub fn assign(s: &mut TernarySearch, len: usize, literal: i32, decision: i32)
-    requires some { ⌜ 1 ≤ natAbs literal ⌝ }
-    requires within { ⌜ natAbs literal ≤ length (values-of (now s)) ⌝ }
-    requires trail { ⌜ len < length (trail-of (now s)) ⌝ }
-    requires decisions { ⌜ len < length (decisions-of (now s)) ⌝ }
-    ensures same { λ _. ⌜ Same (now (s .entry)) (now (s .exit)) ⌝ }
-    ensures values { λ _. ⌜ values-of (now (s .exit)) ≡ set (values-of (now (s .entry))) (natAbs literal - 1) literal ⌝ }
-    ensures trail { λ _. ⌜ trail-of (now (s .exit)) ≡ set (trail-of (now (s .entry))) len literal ⌝ }
-    ensures decisions { λ _. ⌜ decisions-of (now (s .exit)) ≡ set (decisions-of (now (s .entry))) len decision ⌝ }
-{
-    let v = literal.unsigned_abs() as usize;
-    s.values[v - 1] = literal;
-    s.trail[len] = literal;
-    s.decisions[len] = decision;
+impl<'a> TernarySearch<'a> {
+    // Sets a literal behind the first len entries.
+    pub(crate) fn assign(&mut self, len: usize, literal: i32, decision: i32)
+        requires some { ⌜ 1 ≤ natAbs literal ⌝ }
+        requires within { ⌜ natAbs literal ≤ length (values-of (now self)) ⌝ }
+        requires trail { ⌜ len < length (trail-of (now self)) ⌝ }
+        requires decisions { ⌜ len < length (decisions-of (now self)) ⌝ }
+        ensures same { λ _. ⌜ Same (now (self .entry)) (now (self .exit)) ⌝ }
+        ensures values { λ _. ⌜ values-of (now (self .exit)) ≡ set (values-of (now (self .entry))) (natAbs literal - 1) literal ⌝ }
+        ensures trail { λ _. ⌜ trail-of (now (self .exit)) ≡ set (trail-of (now (self .entry))) len literal ⌝ }
+        ensures decisions { λ _. ⌜ decisions-of (now (self .exit)) ≡ set (decisions-of (now (self .entry))) len decision ⌝ }
+    {
+        let v = literal.unsigned_abs() as usize;
+        self.values[v - 1] = literal;
+        self.trail[len] = literal;
+        self.decisions[len] = decision;
+    }
 }
 
-// Unsets the entries before len, from the last on, down to the last open decision, which is unset too.
-pub fn backtrack(s: &mut TernarySearch, len: usize) -> Option<usize>
-    requires recorded { ⌜ Recorded (values-of (now s)) (trail-of (now s)) len ⌝ }
-    requires trail { ⌜ len ≤ length (trail-of (now s)) ⌝ }
-    requires decisions { ⌜ len ≤ length (decisions-of (now s)) ⌝ }
-    ensures same { λ _. ⌜ Same (now (s .entry)) (now (s .exit)) ⌝ }
-    ensures values { λ _. ⌜ length (values-of (now (s .exit))) ≡ length (values-of (now (s .entry))) ⌝ }
-    ensures trail { λ _. ⌜ trail-of (now (s .exit)) ≡ trail-of (now (s .entry)) ⌝ }
-    ensures decisions { λ _. ⌜ decisions-of (now (s .exit)) ≡ decisions-of (now (s .entry)) ⌝ }
-    ensures stop { λ r. ⌜ BySome r (No-open (decisions-of (now (s .entry))) 0 len) (λ p. Backtracked (now (s .entry)) len p (values-of (now (s .exit)))) ⌝ }
-{
-    let mut p = len;
-    while p > 0 {
-        p -= 1;
-        let v = s.trail[p].unsigned_abs() as usize;
-        s.values[v - 1] = 0;
-        if s.decisions[p] > 0 {
-            return Some(p);
+impl<'a> TernarySearch<'a> {
+    // Unsets the entries before len, from the last on, down to the last open decision, which is unset too.
+    pub(crate) fn backtrack(&mut self, len: usize) -> Option<usize>
+        requires recorded { ⌜ Recorded (values-of (now self)) (trail-of (now self)) len ⌝ }
+        requires trail { ⌜ len ≤ length (trail-of (now self)) ⌝ }
+        requires decisions { ⌜ len ≤ length (decisions-of (now self)) ⌝ }
+        ensures same { λ _. ⌜ Same (now (self .entry)) (now (self .exit)) ⌝ }
+        ensures values { λ _. ⌜ length (values-of (now (self .exit))) ≡ length (values-of (now (self .entry))) ⌝ }
+        ensures trail { λ _. ⌜ trail-of (now (self .exit)) ≡ trail-of (now (self .entry)) ⌝ }
+        ensures decisions { λ _. ⌜ decisions-of (now (self .exit)) ≡ decisions-of (now (self .entry)) ⌝ }
+        ensures stop { λ r. ⌜ BySome r (No-open (decisions-of (now (self .entry))) 0 len) (λ p. Backtracked (now (self .entry)) len p (values-of (now (self .exit)))) ⌝ }
+    {
+        let mut p = len;
+        while p > 0 {
+            p -= 1;
+            let v = self.trail[p].unsigned_abs() as usize;
+            self.values[v - 1] = 0;
+            if self.decisions[p] > 0 {
+                return Some(p);
+            }
         }
+        None
     }
-    None
 }
 
 // The other literal of a variable.

@@ -14,7 +14,7 @@ use Rattle.ternary.proofs.calls.TernarySearchSolver.solve.Needs as need
 pub returns : need.returns
 returns c =
     let w = c .args .self .now in
-    let t = c .search-found .last .s in
+    let t = c .search-found .last .self in
     let g = c .search-found .ensures .sound in
     let e = c .search-found .ensures .same in
     let known = sym (c .if-not-all-named .ensures tt) in

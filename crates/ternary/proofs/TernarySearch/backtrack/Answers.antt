@@ -15,20 +15,20 @@ use Rattle.std.proofs.shelf.Tests.{cases-eq}
 use Rattle.ternary.specs.Search.{Same}
 use Rattle.assignment.specs.Trail.{is-open}
 use Rattle.assignment.proofs.Recorded.{pop-at, pop-free}
-use Rattle.ternary.proofs.trail.backtrack.Needs as need
+use Rattle.ternary.proofs.TernarySearch.backtrack.Needs as need
 
-pub returns-then-s-p-gt0 : need.returns-then-s-p-gt0
-returns-then-s-p-gt0 c =
+pub returns-then-self-p-gt0 : need.returns-then-self-p-gt0
+returns-then-self-p-gt0 c =
     let inv = c .loop-p .inv in
     let n = c .loop-p .p in
-    let vs = c .loop-p .s .values .now in
-    let ts = c .args .s .now .trail .now in
-    let os = c .args .s .now .decisions .now in
+    let vs = c .loop-p .self .values .now in
+    let ts = c .args .self .now .trail .now in
+    let os = c .args .self .now .decisions .now in
     let v = c .unsigned-abs-v .result in
-    let f-t : SFits w32 (getD (c .loop-p .s .trail .now) (n - 1) (pos 0)) = search needs in
-    let f-o : SFits w32 (getD (c .loop-p .s .decisions .now) (n - 1) (pos 0)) = search needs in
+    let f-t : SFits w32 (getD (c .loop-p .self .trail .now) (n - 1) (pos 0)) = search needs in
+    let f-o : SFits w32 (getD (c .loop-p .self .decisions .now) (n - 1) (pos 0)) = search needs in
     let var : v ≡ natAbs (getD ts (n - 1) (pos 0)) = c .unsigned-abs-v .ensures .value ∙ ap natAbs (toZ-ofZ w32 _ f-t) ∙ ap (λ xs. natAbs (getD xs (n - 1) (pos 0))) (inv .3) in
-    let open′ : is-open os (n - 1) ≡ true = sym (ap (λ xs. ltZ (pos 0) (getD xs (n - 1) (pos 0))) (inv .4)) ∙ sym (ap (ltZ (pos 0)) (toZ-ofZ w32 _ f-o)) ∙ c .if-s-p-gt0 .taken in
+    let open′ : is-open os (n - 1) ≡ true = sym (ap (λ xs. ltZ (pos 0) (getD xs (n - 1) (pos 0))) (inv .4)) ∙ sym (ap (ltZ (pos 0)) (toZ-ofZ w32 _ f-o)) ∙ c .if-self-p-gt0 .taken in
     let above = c .loop-p-test .taken in
     let low = inv .0 in
     record {
@@ -49,14 +49,14 @@ pub loop-p-again : need.loop-p-again
 loop-p-again c =
     let inv = c .loop-p .inv in
     let n = c .loop-p .p in
-    let vs = c .loop-p .s .values .now in
-    let ts = c .args .s .now .trail .now in
-    let os = c .args .s .now .decisions .now in
+    let vs = c .loop-p .self .values .now in
+    let ts = c .args .self .now .trail .now in
+    let os = c .args .self .now .decisions .now in
     let v = c .unsigned-abs-v .result in
-    let f-t : SFits w32 (getD (c .loop-p .s .trail .now) (n - 1) (pos 0)) = search needs in
-    let f-o : SFits w32 (getD (c .loop-p .s .decisions .now) (n - 1) (pos 0)) = search needs in
+    let f-t : SFits w32 (getD (c .loop-p .self .trail .now) (n - 1) (pos 0)) = search needs in
+    let f-o : SFits w32 (getD (c .loop-p .self .decisions .now) (n - 1) (pos 0)) = search needs in
     let var : v ≡ natAbs (getD ts (n - 1) (pos 0)) = c .unsigned-abs-v .ensures .value ∙ ap natAbs (toZ-ofZ w32 _ f-t) ∙ ap (λ xs. natAbs (getD xs (n - 1) (pos 0))) (inv .3) in
-    let no-open′ : is-open os (n - 1) ≡ false = sym (ap (λ xs. ltZ (pos 0) (getD xs (n - 1) (pos 0))) (inv .4)) ∙ sym (ap (ltZ (pos 0)) (toZ-ofZ w32 _ f-o)) ∙ c .if-s-p-gt0 .left in
+    let no-open′ : is-open os (n - 1) ≡ false = sym (ap (λ xs. ltZ (pos 0) (getD xs (n - 1) (pos 0))) (inv .4)) ∙ sym (ap (ltZ (pos 0)) (toZ-ofZ w32 _ f-o)) ∙ c .if-self-p-gt0 .left in
     let above = c .loop-p-test .taken in
     let low = inv .0 in (
       omega (arith, low),
