@@ -24,29 +24,29 @@ use Rattle.assignment.proofs.Backtracking.{closed-assign, closed-fewer, walked-
 use Rattle.assignment.proofs.Weights.{assign-less, flip-less}
 
 pub same-refl : (s : TernarySearch) → Same s s
-same-refl s = record { clauses = refl; capacity = refl; vars = refl; count = refl; room = refl }
+same-refl s = record { clauses = refl; limit = refl; vars = refl; count = refl; room = refl }
 
 pub same-trans : (r s t : TernarySearch) → Same r s → Same s t → Same r t
 same-trans r s t a b = record {
   clauses = b .clauses ∙ a .clauses;
-  capacity = b .capacity ∙ a .capacity;
+  limit = b .limit ∙ a .limit;
   vars = b .vars ∙ a .vars;
   count = b .count ∙ a .count;
   room = b .room ∙ a .room;
 }
 
 pub same-sym : (s t : TernarySearch) → Same s t → Same t s
-same-sym s t a = record { clauses = sym (a .clauses); capacity = sym (a .capacity); vars = sym (a .vars); count = sym (a .count); room = sym (a .room) }
+same-sym s t a = record { clauses = sym (a .clauses); limit = sym (a .limit); vars = sym (a .vars); count = sym (a .count); room = sym (a .room) }
 
 pub sound-same : (s t : TernarySearch) → Sound s → Same s t → length (values-of t) ≡ length (values-of s) → length (trail-of t) ≡ length (trail-of s) → length (decisions-of t) ≡ length (decisions-of s) → Sound t
 sound-same s t g e v l m = record {
-  clauses-len = ap length (e .clauses) ∙ g .clauses-len ∙ ap (λ n. 3 * n) (sym (e .capacity));
-  values-len = v ∙ g .values-len ∙ sym (e .capacity);
-  trail-len = l ∙ g .trail-len ∙ sym (e .capacity);
-  decisions-len = m ∙ g .decisions-len ∙ sym (e .capacity);
-  counts = omega (arith, g .counts, e .count, e .room, e .capacity);
-  in-range = omega (arith, g .in-range, e .vars, e .capacity);
-  small = omega (arith, g .small, e .capacity);
+  clauses-len = ap length (e .clauses) ∙ g .clauses-len ∙ ap (λ n. 3 * n) (sym (e .limit));
+  values-len = v ∙ g .values-len ∙ sym (e .limit);
+  trail-len = l ∙ g .trail-len ∙ sym (e .limit);
+  decisions-len = m ∙ g .decisions-len ∙ sym (e .limit);
+  counts = omega (arith, g .counts, e .count, e .room, e .limit);
+  in-range = omega (arith, g .in-range, e .vars, e .limit);
+  small = omega (arith, g .small, e .limit);
   literals = λ k l. subst (λ (xs : List ℤ). natAbs (getD xs k (pos 0)) ≤ t .vars) (sym (e .clauses)) (let h = g .literals k (omega (arith, l, e .count)) in omega (arith, h, e .vars));
 }
 
@@ -74,7 +74,7 @@ module _ (s₀ : TernarySearch) (a : List ℤ) where
     pub room-decisions : (x : ℤ) → Free (values-of s) x → len < length (decisions-of s)
     room-decisions x f = let r = recorded-room (values-of s) (trail-of s) len x (turn .recorded) f in omega (arith, r, turn .sound .decisions-len, turn .sound .values-len)
 
-    pub turn-within : len ≤ s .capacity
+    pub turn-within : len ≤ s .limit
     turn-within = let z = turn .recorded .count in omega (arith, z, turn .sound .values-len)
 
     -- what the values force, the trail forces
@@ -93,12 +93,12 @@ module _ (s₀ : TernarySearch) (a : List ℤ) where
       closed = subst (λ (ts : List ℤ). Closed (Sought s₀ a) ts (decisions-of t) (len + 1)) (sym el) (subst (λ (os : List ℤ). Closed (Sought s₀ a) (set (trail-of s) len x) os (len + 1)) (sym em) (closed-assign (Sought s₀ a) (trail-of s) (decisions-of s) len x o (room-trail x f) (room-decisions x f) new (turn .closed)));
     }
 
-    pub turn-assign-less : (os : List ℤ) (x o : ℤ) → Free (values-of s) x → os ≡ set (decisions-of s) len o → weight (digit os (len + 1)) (s₀ .capacity) < weight (digit (decisions-of s) len) (s₀ .capacity)
+    pub turn-assign-less : (os : List ℤ) (x o : ℤ) → Free (values-of s) x → os ≡ set (decisions-of s) len o → weight (digit os (len + 1)) (s₀ .limit) < weight (digit (decisions-of s) len) (s₀ .limit)
     turn-assign-less os x o f em =
         let r = room-decisions x f in
-        let c = turn .same .capacity in
+        let c = turn .same .limit in
         let n = turn .sound .decisions-len in
-        subst (λ (ks : List ℤ). weight (digit ks (len + 1)) (s₀ .capacity) < weight (digit (decisions-of s) len) (s₀ .capacity)) (sym em) (assign-less (decisions-of s) len o (s₀ .capacity) r (omega (arith, r, c, n)))
+        subst (λ (ks : List ℤ). weight (digit ks (len + 1)) (s₀ .limit) < weight (digit (decisions-of s) len) (s₀ .limit)) (sym em) (assign-less (decisions-of s) len o (s₀ .limit) r (omega (arith, r, c, n)))
 
     -- all entries closed, and none of the rows sought agrees
     pub turn-none : ((row : Row) → Extends row (values-of s) → Sought s a row → ⊥) → No-open (decisions-of s) 0 len → (row : Row) → Sought s₀ a row → ⊥
@@ -135,12 +135,12 @@ module _ (s₀ : TernarySearch) (a : List ℤ) where
           let l = stop .less in
           flipped (Sought s₀ a) (trail-of s) p backtrack-some (walked-to (Sought s₀ a) (trail-of s) (decisions-of s) (p + 1) len (omega (arith, l)) (turn .closed) (stop .no-open) (blocked f)) row w (subst (λ (ts : List ℤ). Before ts p row) el b)
 
-      pub turn-flip-less : (os : List ℤ) → os ≡ set (decisions-of u) p (pos 0) → weight (digit os (p + 1)) (s₀ .capacity) < weight (digit (decisions-of s) len) (s₀ .capacity)
+      pub turn-flip-less : (os : List ℤ) → os ≡ set (decisions-of u) p (pos 0) → weight (digit os (p + 1)) (s₀ .limit) < weight (digit (decisions-of s) len) (s₀ .limit)
       turn-flip-less os eo =
           let k = turn-backtrack .sound .decisions-len in
-          let c = turn-backtrack .same .capacity in
+          let c = turn-backtrack .same .limit in
           let r = room-decisions′ in
-          subst (λ (ks : List ℤ). weight (digit ks (p + 1)) (s₀ .capacity) < weight (digit (decisions-of s) len) (s₀ .capacity)) (sym (eo ∙ ap (λ (ks : List ℤ). set ks p (pos 0)) em)) (flip-less (decisions-of s) len p (s₀ .capacity) r (stop .less) (let q = ap length em in omega (arith, r, k, c, q)) (stop .open′))
+          subst (λ (ks : List ℤ). weight (digit ks (p + 1)) (s₀ .limit) < weight (digit (decisions-of s) len) (s₀ .limit)) (sym (eo ∙ ap (λ (ks : List ℤ). set ks p (pos 0)) em)) (flip-less (decisions-of s) len p (s₀ .limit) r (stop .less) (let q = ap length em in omega (arith, r, k, c, q)) (stop .open′))
         where
           room-decisions′ : p < length (decisions-of s)
           room-decisions′ =

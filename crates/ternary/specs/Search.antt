@@ -29,7 +29,7 @@ decisions-of s = now (s .decisions)
 
 pub record Same (s t : TernarySearch) : Type 0 where
   pub clauses : now (t .clauses) ≡ now (s .clauses)
-  pub capacity : t .capacity ≡ s .capacity
+  pub limit : t .limit ≡ s .limit
   pub vars : t .vars ≡ s .vars
   pub count : t .count ≡ s .count
   pub room : t .room ≡ s .room

@@ -21,7 +21,7 @@ sizes-over n = record { capacity = min (n / 8) 1000000; width = 3; full = min (n
 
 abbrev pub stands : TernarySearch → Meaning
 stands s = record {
-  sizes = record { capacity = s .capacity; width = 3; full = s .capacity };
+  sizes = record { capacity = s .limit; width = 3; full = s .limit };
   vars = s .vars;
   allowed = λ row. Stored-true row (now (s .clauses)) (s .count);
   room = s .room;
@@ -29,13 +29,13 @@ stands s = record {
 }
 
 pub record Sound (s : TernarySearch) : Type 0 where
-  pub clauses-len : length (now (s .clauses)) ≡ 3 * s .capacity
-  pub values-len : length (now (s .values)) ≡ s .capacity
-  pub trail-len : length (now (s .trail)) ≡ s .capacity
-  pub decisions-len : length (now (s .decisions)) ≡ s .capacity
-  pub counts : s .count + s .room ≡ s .capacity
-  pub in-range : s .vars ≤ s .capacity
-  pub small : s .capacity ≤ 1000000
+  pub clauses-len : length (now (s .clauses)) ≡ 3 * s .limit
+  pub values-len : length (now (s .values)) ≡ s .limit
+  pub trail-len : length (now (s .trail)) ≡ s .limit
+  pub decisions-len : length (now (s .decisions)) ≡ s .limit
+  pub counts : s .count + s .room ≡ s .limit
+  pub in-range : s .vars ≤ s .limit
+  pub small : s .limit ≤ 1000000
   pub literals : Ranged (now (s .clauses)) (s .count) (s .vars)
 
 pub bounded : (s : TernarySearch) → Sound s → Bounded (stands s)

@@ -3,12 +3,14 @@ mod calls;
 mod occurrences;
 mod search;
 mod status;
+mod storage;
 mod trail;
 
 pub use calls::TernarySearchSolver;
 
 // The first count clauses are in use, each in three places; values has a number for each variable, trail the literals made true and decisions
 // which of them are open; occurrences has lists of clauses by variable, where there is room for them.
+// At most limit variables and limit clauses may be in use.
 #[derive(Drop)]
 pub struct TernarySearch<'a> {
     clauses: &'a mut [i32],
@@ -16,7 +18,7 @@ pub struct TernarySearch<'a> {
     trail: &'a mut [i32],
     decisions: &'a mut [i32],
     occurrences: &'a mut [i32],
-    capacity: usize,
+    limit: usize,
     vars: usize,
     count: usize,
     room: usize,

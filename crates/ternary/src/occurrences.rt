@@ -58,7 +58,7 @@ fn hinted_clause(clauses: &[i32], count: usize, values: &[i32], e: usize) -> Sta
     }
 }
 
-// What the clauses on a variable's list tell, if one of them is broken or forces a literal.
+// What the clauses on a variable's list tell, if one of them is a conflict or forces a literal.
 fn follow_list(
     clauses: &[i32],
     count: usize,
@@ -143,7 +143,7 @@ pub struct Next {
 }
 
 impl<'a> TernarySearch<'a> {
-    // What there is to do next: where the lists lead, or else what a look at all tells.
+    // What there is to do next: where the lists lead, or else what an examination of all clauses tells.
     // Where to begin, from, and the first entry not followed yet, head, are hints.
     pub(crate) fn next_step(
         &self,
@@ -155,7 +155,7 @@ impl<'a> TernarySearch<'a> {
     ) -> Next
         requires sound { ⌜ Sound (now self) ⌝ }
         requires named { ⌜ all-named (now self .vars) (now assumed) ≡ true ⌝ }
-        requires within { ⌜ len ≤ now self .capacity ⌝ }
+        requires within { ⌜ len ≤ now self .limit ⌝ }
         ensures { λ r. ⌜ Tells (values-of (now (self .entry))) (Sought (now (self .entry)) (now (assumed .entry))) (r .status) ⌝ }
     {
         let start = if quick { head } else { len };

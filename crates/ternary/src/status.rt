@@ -14,6 +14,7 @@ use assignment::Finding;
 use assignment::Status;
 use assignment::Value;
 
+// The value of a literal in a place; 0 is no literal, and false.
 pub fn value_of(values: &[i32], literal: i32) -> Value
     requires { ⌜ natAbs literal ≤ length (now values) ⌝ }
     ensures { λ r. ⌜ Valued (now (values .entry)) literal r ⌝ }
@@ -60,8 +61,8 @@ pub fn clause_status(values: &[i32], x: i32, y: i32, z: i32) -> Status
     with_literal(values, two, z)
 }
 
-// What the clauses from .. to tell; a literal to choose is one of the first clause with no true literal,
-// and a quick look ends there.
+// What the clauses from .. to tell; an open literal is one of the first clause with no true literal,
+// and a quick scan ends there.
 fn scan_range(clauses: &[i32], quick: bool, from: usize, to: usize, values: &[i32]) -> Finding
     requires room { ⌜ 3 * to ≤ length (now clauses) ⌝ }
     requires ranged { ⌜ Ranged (now clauses) to (length (now values)) ⌝ }
@@ -131,7 +132,7 @@ fn scan(clauses: &[i32], quick: bool, count: usize, values: &[i32], from: usize)
     }
 }
 
-// The first of two looks, or the second if there all is met.
+// The first of two findings, or the second if the first is that all is satisfied.
 fn first_unsatisfied(early: Finding, late: Finding) -> Finding
     ensures { λ r. ⌜ r ≡ first-finding early late ⌝ }
 {

@@ -20,7 +20,7 @@ pub fn clear(places: &mut [i32])
 }
 
 impl<'a> TernarySearch<'a> {
-    // Sets a literal behind the first len entries.
+    // Makes a literal true, as an entry behind the first len; a decision above 0 is open.
     pub(crate) fn assign(&mut self, len: usize, literal: i32, decision: i32)
         requires some { ⌜ 1 ≤ natAbs literal ⌝ }
         requires within { ⌜ natAbs literal ≤ length (values-of (now self)) ⌝ }
@@ -36,9 +36,7 @@ impl<'a> TernarySearch<'a> {
         self.trail[len] = literal;
         self.decisions[len] = decision;
     }
-}
 
-impl<'a> TernarySearch<'a> {
     // Unsets the entries before len, from the last on, down to the last open decision, which is unset too.
     pub(crate) fn backtrack(&mut self, len: usize) -> Option<usize>
         requires recorded { ⌜ Recorded (values-of (now self)) (trail-of (now self)) len ⌝ }

@@ -32,7 +32,7 @@ returns-then-self-p-gt0 c =
     let above = c .loop-p-test .taken in
     let low = inv .0 in
     record {
-      same = record { clauses = inv .1 .clauses; capacity = inv .1 .capacity; vars = inv .1 .vars; count = inv .1 .count; room = inv .1 .room };
+      same = record { clauses = inv .1 .clauses; limit = inv .1 .limit; vars = inv .1 .vars; count = inv .1 .count; room = inv .1 .room };
       values = length-set vs (v - 1) (pos 0) ∙ inv .2;
       trail = inv .3;
       decisions = inv .4;
@@ -60,7 +60,7 @@ loop-p-again c =
     let above = c .loop-p-test .taken in
     let low = inv .0 in (
       omega (arith, low),
-      record { clauses = inv .1 .clauses; capacity = inv .1 .capacity; vars = inv .1 .vars; count = inv .1 .count; room = inv .1 .room },
+      record { clauses = inv .1 .clauses; limit = inv .1 .limit; vars = inv .1 .vars; count = inv .1 .count; room = inv .1 .room },
       length-set vs (v - 1) (pos 0) ∙ inv .2,
       inv .3,
       inv .4,

@@ -18,7 +18,7 @@ loop-e-again c =
     elim (c .if-v-gt0 .came) [
       | then-v-gt0·then-v-vars w ↦ subst M (sym (w .self-is)) (
         record { clauses-len = g .clauses-len; values-len = g .values-len; trail-len = g .trail-len; decisions-len = g .decisions-len; counts = g .counts; in-range = g .in-range; small = g .small; literals = g .literals },
-        record { clauses = e .clauses; capacity = e .capacity; vars = e .vars; count = e .count; room = e .room },
+        record { clauses = e .clauses; limit = e .limit; vars = e .vars; count = e .count; room = e .room },
         simp length-set (c .loop-e .inv .2),
       )
       | else-v-gt0 w ↦ subst M (sym (w .self-is)) (c .loop-e .inv)

@@ -51,7 +51,7 @@ returns-in-None c =
     let e = same-trans _ (c .loop-self .self) (c .backtrack .last .self) (inv .same) (b .same) in
     record {
       sound = sound-same (c .loop-self .self) (c .backtrack .last .self) (inv .sound) (b .same) (b .values) (ap length (b .trail)) (ap length (b .decisions));
-      same = record { clauses = e .clauses ∙ e₀ .clauses; capacity = e .capacity ∙ e₀ .capacity; vars = e .vars ∙ e₀ .vars; count = e .count ∙ e₀ .count; room = e .room ∙ e₀ .room };
+      same = record { clauses = e .clauses ∙ e₀ .clauses; limit = e .limit ∙ e₀ .limit; vars = e .vars ∙ e₀ .vars; count = e .count ∙ e₀ .count; room = e .room ∙ e₀ .room };
       answer = λ row w. turn-none _ _ (c .loop-self .self) (c .loop-self .len) inv (subst (λ (t : Status). Tells (values-of (c .loop-self .self)) (Sought (c .loop-self .self) (c .args .assumed .now)) t) (c .in-Conflict .is) (c .next-step-next .ensures)) (b .stop) row (sought-same (c .args .self .now) (c .list-occurrences-listed .last .self) (c .args .assumed .now) e₀ row w);
     }
 
@@ -60,7 +60,7 @@ returns-in-Satisfied c =
     let inv = c .loop-self .inv in
     let e₀ = c .list-occurrences-listed .ensures .same in
     let e = inv .same in
-    let all : Same (c .args .self .now) (c .loop-self .self) = record { clauses = e .clauses ∙ e₀ .clauses; capacity = e .capacity ∙ e₀ .capacity; vars = e .vars ∙ e₀ .vars; count = e .count ∙ e₀ .count; room = e .room ∙ e₀ .room } in
+    let all : Same (c .args .self .now) (c .loop-self .self) = record { clauses = e .clauses ∙ e₀ .clauses; limit = e .limit ∙ e₀ .limit; vars = e .vars ∙ e₀ .vars; count = e .count ∙ e₀ .count; room = e .room ∙ e₀ .room } in
     record {
       sound = inv .sound;
       same = all;

@@ -7,4 +7,4 @@ abbrev pub Inv-loop-self : given.InvT-loop-self
 Inv-loop-self l = Turn (l .entry .self) (l .self) (l .assumed) (l .len)
 
 abbrev pub μ-loop-self : given.MeasureT-loop-self
-μ-loop-self l = weight (digit (decisions-of (l .self)) (l .len)) (l .entry .self .capacity)
+μ-loop-self l = weight (digit (decisions-of (l .self)) (l .len)) (l .entry .self .limit)

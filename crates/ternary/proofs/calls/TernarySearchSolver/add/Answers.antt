@@ -23,7 +23,7 @@ returns c =
     let same : c .store-clause .last .places ≡ triple-set xs (3 * w .count) cl = c .store-clause .ensures in
     let some-room : 1 ≤ w .room = search needs in
     let within : 3 * w .count + 3 ≤ length xs = omega (arith, sound .clauses-len, sound .counts, some-room) in
-    let short = c .if-clause-gt3 .left in
+    let short : length cl ≤ 3 = omega (arith, c .if-clause-width .left, c .width .ensures) in
     let known = sym (c .if-not-all-named .ensures tt) in
     let one : price (length cl) ≡ 1 = grind (arith, tells) in
     record {
