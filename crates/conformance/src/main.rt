@@ -15,6 +15,8 @@ use splitter::SplitterSolver;
 use std::io;
 use tally::Tally;
 use tally::TallyDisplay;
+use ternary::TernarySearch;
+use ternary::TernarySearchSolver;
 
 const SEED: u32 = 20261118;
 
@@ -24,10 +26,19 @@ fn main(rt: LibcRuntime) -> io::Result<()> {
     let mut walker = RowWalker::new();
     let mut split = Splitter::over(RowWalker::new());
     let mut twice = Splitter::over(Splitter::over(RowWalker::new()));
+    let mut none = [7i32; 7];
+    let mut tiny = TernarySearch::over(&mut none);
+    let mut words = [-1i32; 199];
+    let mut search = TernarySearch::over(&mut words);
+    let mut more = [1i32; 384];
+    let mut above = Splitter::over(TernarySearch::over(&mut more));
     println!(rt, "seed {SEED}")?;
     sizes(&rt, "row walker", &walker)?;
     sizes(&rt, "splitter over the row walker", &split)?;
     sizes(&rt, "splitter over that splitter", &twice)?;
+    sizes(&rt, "ternary search over 7 numbers", &tiny)?;
+    sizes(&rt, "ternary search over 199 numbers", &search)?;
+    sizes(&rt, "splitter over one over 384 numbers", &above)?;
     report(
         &rt,
         "row walker",
@@ -48,12 +59,45 @@ fn main(rt: LibcRuntime) -> io::Result<()> {
         "splitter over that splitter",
         &own(&mut twice, Script::new(SEED, 3, 10), 1000),
     )?;
+    report(
+        &rt,
+        "ternary search over 7 numbers",
+        &own(&mut tiny, Script::new(SEED, 2, 10), 200),
+    )?;
+    report(
+        &rt,
+        "ternary search",
+        &own(&mut search, Script::new(SEED, 10, 30), 4000),
+    )?;
+    report(
+        &rt,
+        "ternary search, seldom begun",
+        &own(&mut search, Script::of_threes(SEED, 10, 60), 4000),
+    )?;
+    report(
+        &rt,
+        "splitter over the ternary search",
+        &own(&mut above, Script::new(SEED, 10, 30), 4000),
+    )?;
     let first = shared(&mut walker);
-    report(&rt, "the same calls to all three", &first)?;
+    report(
+        &rt,
+        "the same calls to the row walker and all splitters",
+        &first,
+    )?;
     agree(
         &rt,
-        first.agrees(&shared(&mut split)) && first.agrees(&shared(&mut twice)),
-    )
+        first.agrees(&shared(&mut split))
+            && first.agrees(&shared(&mut twice))
+            && first.agrees(&shared(&mut above)),
+    )?;
+    let first = threes(&mut walker);
+    report(
+        &rt,
+        "the same clauses of three to the row walker and the ternary search",
+        &first,
+    )?;
+    agree(&rt, first.agrees(&threes(&mut search)))
 }
 
 // Plays calls beside a truth table of the solver's own sizes.
@@ -71,6 +115,19 @@ fn shared<S: Solver>(solver: &mut S) -> Tally
     ensures { λ _. ⌜ S·Solver .sound (now (solver .exit)) ⌝ }
 {
     play(solver, Model::new(6, 16, 5), Script::new(SEED, 3, 10), 1000)
+}
+
+// Plays calls with clauses of up to three literals, which the row walker and the ternary search take or refuse alike.
+fn threes<S: Solver>(solver: &mut S) -> Tally
+    requires { ⌜ S·Solver .sound (now solver) ⌝ }
+    ensures { λ _. ⌜ S·Solver .sound (now (solver .exit)) ⌝ }
+{
+    play(
+        solver,
+        Model::new(24, 3, 23),
+        Script::of_threes(SEED, 10, 60),
+        4000,
+    )
 }
 
 fn sizes<S: Solver>(rt: &impl Print, name: &str, solver: &S) -> io::Result<()> {

@@ -22,14 +22,15 @@ pub enum Call {
     Value(usize),
 }
 
-// vars are in use, at most most; one call in every is a begin.
+// vars are in use, at most most; one call in every is a begin; no clause is longer than longest.
 #[derive(Clone, Copy)]
 pub struct Script {
     seed: u32,
     vars: u32,
     most: u32,
     every: u32,
-    ghost ok: { (vars ≤ 10) × (most ≤ 10) × (0 < every) },
+    longest: usize,
+    ghost ok: { (vars ≤ 10) × (most ≤ 10) × (0 < every) × (longest ≤ 18) },
 }
 
 impl Script {
@@ -39,7 +40,15 @@ impl Script {
             vars: 0,
             most: most.min(10),
             every: every.max(1),
+            longest: 18,
         }
+    }
+
+    // The same, with clauses of up to three literals.
+    pub fn of_threes(seed: u32, most: u32, every: u32) -> Script {
+        let mut script = Script::new(seed, most, every);
+        script.longest = 3;
+        script
     }
 
     fn pick(&mut self, below: u32) -> u32
@@ -90,11 +99,12 @@ impl Script {
     fn length(&mut self) -> usize
         ensures { λ r. ⌜ r ≤ 18 ⌝ }
     {
-        match self.pick(32) {
+        let length = match self.pick(32) {
             0 => 0,
             1..=15 => self.pick(4) as usize + 1,
             _ => self.pick(17) as usize + 1,
-        }
+        };
+        length.min(self.longest)
     }
 
     fn begin(&mut self) -> Call {

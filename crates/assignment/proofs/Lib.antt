@@ -1,0 +1,5 @@
+pub mod Stored
+pub mod Recorded
+pub mod Backtracking
+pub mod Weights
+pub mod Statuses

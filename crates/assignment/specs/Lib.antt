@@ -1,0 +1,4 @@
+pub mod Stored
+pub mod Assignment
+pub mod Statuses
+pub mod Trail
