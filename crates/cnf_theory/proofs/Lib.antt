@@ -6,3 +6,5 @@ pub mod TestSound
 pub mod TestComplete
 pub mod Row
 pub mod Theorem
+pub mod Range
+pub mod Lengths
