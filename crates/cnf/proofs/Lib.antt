@@ -1,0 +1,3 @@
+-- The lemmas of the writer.
+pub mod Wrote
+pub mod Pieces

@@ -1,0 +1,14 @@
+// The clause writer: it walks a circuit, its tests and a bound once, and hands the formula's clauses, in order, to whatever takes them.
+mod bound;
+mod clause;
+mod counter;
+mod literal;
+mod sink;
+mod tally;
+
+pub use bound::Bound;
+pub use counter::count_variable;
+pub use literal::Literal;
+pub use sink::ClauseSink;
+pub use tally::Tally;
+pub use tally::TallySink;
