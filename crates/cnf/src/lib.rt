@@ -2,6 +2,8 @@
 mod bound;
 mod clause;
 mod counter;
+mod function;
+mod gates;
 mod literal;
 mod sink;
 mod tally;
