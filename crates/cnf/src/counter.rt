@@ -2,6 +2,7 @@
 ghost use mathlib.Core.Path.{_≡_};
 ghost use mathlib.Core.List.{_++_};
 ghost use Prim.Native.Nat.{suc, _+_, _<_, _≤_};
+ghost use lib.ListN.{length};
 ghost use Rattle.cnf_theory.specs.Literals.{integers};
 ghost use Rattle.cnf_theory.specs.Variables.{countVariable};
 ghost use Rattle.cnf_theory.specs.Counter.{carry, step, countAt, counter, limit};
@@ -66,7 +67,7 @@ fn write_count_at<K: ClauseSink>(sink: &mut K, gates: usize, bound: usize, befor
 }
 
 // The counts of all gates.
-pub(crate) fn write_counter<K: ClauseSink>(sink: &mut K, gates: usize, bound: usize)
+fn write_counter<K: ClauseSink>(sink: &mut K, gates: usize, bound: usize)
     requires ready { ⌜ K·ClauseSink .ready (now sink) ⌝ }
     requires sizes { ⌜ gates ≤ 256 ⌝ ∗ ⌜ bound ≤ 6 ⌝ }
     ensures ready { λ _. ⌜ K·ClauseSink .ready (now (sink .exit)) ⌝ }
@@ -87,5 +88,29 @@ pub(crate) fn write_limit<K: ClauseSink>(sink: &mut K, gates: usize, bound: usiz
     if gates > 0 {
         let last = count_variable(gates, bound, gates - 1, bound + 1);
         take_one(sink, Literal::Negative(last));
+    }
+}
+
+// How many clauses the counter has: one at the first gate, and two for each count at every other.
+fn counter_clause_count(gates: usize, bound: usize) -> usize
+    requires { ⌜ gates ≤ 256 ⌝ ∗ ⌜ bound ≤ 6 ⌝ }
+    ensures { λ r. ⌜ length (counter gates bound) ≡ r ⌝ }
+{
+    if gates == 0 {
+        return 0;
+    }
+    1 + (gates - 1) * ((bound + 1) * 2)
+}
+
+// The counts of all gates, unless the sink passes them.
+pub(crate) fn write_counter_or_pass<K: ClauseSink>(sink: &mut K, gates: usize, bound: usize)
+    requires ready { ⌜ K·ClauseSink .ready (now sink) ⌝ }
+    requires sizes { ⌜ gates ≤ 256 ⌝ ∗ ⌜ bound ≤ 6 ⌝ }
+    ensures ready { λ _. ⌜ K·ClauseSink .ready (now (sink .exit)) ⌝ }
+    ensures took { λ _. ⌜ K·ClauseSink .took (now (sink .entry)) (integers (counter gates bound)) (now (sink .exit)) ⌝ }
+{
+    let count = counter_clause_count(gates, bound);
+    if !sink.pass(count) {
+        write_counter(sink, gates, bound);
     }
 }

@@ -2,14 +2,19 @@
 mod bound;
 mod clause;
 mod counter;
+mod formula;
 mod function;
 mod gates;
 mod literal;
 mod sink;
 mod tally;
+mod tests;
 
 pub use bound::Bound;
 pub use counter::count_variable;
+pub use formula::formula_sizes;
+pub use formula::variable_count;
+pub use formula::write_formula;
 pub use literal::Literal;
 pub use sink::ClauseSink;
 pub use tally::Tally;
