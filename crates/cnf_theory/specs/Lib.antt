@@ -6,3 +6,4 @@ pub mod Gates
 pub mod Formula
 pub mod FormulaLaws
 pub mod Sizes
+pub mod Dimacs
