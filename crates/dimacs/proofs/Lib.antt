@@ -1,0 +1,2 @@
+-- The lemmas of the lines.
+pub mod Appending

@@ -1,0 +1,15 @@
+-- One clause picked from those that are written.
+--   Picked   a pick after these clauses: it has let so many pass, or keeps the one behind them
+use mathlib.Core.Bool.{true, false}
+use mathlib.Core.List.{List, []}
+use mathlib.Core.Path.{_≡_}
+use Prim.Native.Nat.{ℕ, _+_, _≤_, _<_}
+use lib.IntN.{ℤ}
+use lib.ListN.{length, getD, take}
+use Rattle.dimacs.specs.declared.pick.Pick.{Pick}
+
+pub record Picked (s : Pick) (cs : List (List ℤ)) (t : Pick) : Type 0 where
+  pub past : s .found ≡ true → t ≡ s
+  pub before : s .found ≡ false → length cs ≤ s .skip → (t .found ≡ false) × (t .skip + length cs ≡ s .skip)
+  pub found : s .found ≡ false → s .skip < length cs → t .found ≡ true
+  pub here : s .found ≡ false → s .skip < length cs → length (getD cs (s .skip) []) ≤ 9 → (take (t .count) (t .literals) ≡ getD cs (s .skip) []) × (t .count ≤ 9)
