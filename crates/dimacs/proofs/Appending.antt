@@ -42,3 +42,6 @@ negative-word (negsuc k) n e h = ap (λ m. 45 ∷ decimal m) (sym e)
 pub positive-word : (z : ℤ) (n : ℕ) → n ≡ natAbs z → ltZ z (pos 0) ≡ false → signed z ≡ decimal n
 positive-word (pos k) n e h = ap decimal (sym e)
 positive-word (negsuc k) n e h = absurd (true≢false h)
+
+pub filled : (s t : Text) (bs : List ℕ) → textOf s ≡ [] → length bs ≤ 128 → Appended s bs t → textOf t ≡ bs
+filled s t bs e n x = let z = ap length e in x .put (omega arith) ∙ ap (λ r. r ++ bs) e
