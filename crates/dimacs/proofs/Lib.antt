@@ -1,0 +1,3 @@
+-- The lemmas of the lines.
+pub mod Appending
+pub mod Lines
