@@ -2,16 +2,10 @@
 use mathlib.Core.Path.{_≡_, refl, sym, ap, subst, _∙_}
 use mathlib.Core.Bool.{Bool, true, false, _||_}
 use mathlib.Core.Logic.{⊎-elim}
-use Rattle.std.proofs.shelf.Tests.{or-left, or-right, or-cases}
+use Rattle.std.proofs.shelf.Tests.{or-cases}
 use Rattle.signal_value.specs.Possible.{Possible, only, both, includes, either, image, image2}
 use Rattle.signal_value.specs.Law.{Follows, Follows2, Images-follow}
-use Rattle.signal_value.proofs.Included.{beq-refl, beq-same, same-beq, includes-either, same-bits}
-
-from-left : (P Q : Possible) (x : Bool) → includes P x ≡ true → includes (either P Q) x ≡ true
-from-left P Q x e = includes-either P Q x ∙ or-left _ _ e
-
-from-right : (P Q : Possible) (x : Bool) → includes Q x ≡ true → includes (either P Q) x ≡ true
-from-right P Q x e = includes-either P Q x ∙ or-right _ _ e
+use Rattle.signal_value.proofs.Included.{beq-refl, beq-same, same-beq, includes-either, either-left, either-right, same-bits}
 
 pub image-follows : (f : Bool → Bool) (P : Possible) → Follows f P (image f P)
 image-follows f (only b) = record {
@@ -20,7 +14,7 @@ image-follows f (only b) = record {
 }
 image-follows f both = record {
   every = λ p e. elim p as (λ v. includes (either (only (f false)) (only (f true))) (f v) ≡ true)
-      [ true ↦ from-right (only (f false)) (only (f true)) (f true) (beq-refl (f true)) | false ↦ from-left (only (f false)) (only (f true)) (f false) (beq-refl (f false)) ];
+      [ true ↦ either-right (only (f false)) (only (f true)) (f true) (beq-refl (f true)) | false ↦ either-left (only (f false)) (only (f true)) (f false) (beq-refl (f false)) ];
   no-other = λ x e.
       ⊎-elim
       (λ l. (false, refl, beq-same (f false) x l))
@@ -40,7 +34,7 @@ image2-follows f both Q =
     let high = image-follows (f true) Q in
     record {
       every = λ p q e d. elim p as (λ v. includes (either (image (f false) Q) (image (f true) Q)) (f v q) ≡ true)
-          [ true ↦ from-right (image (f false) Q) (image (f true) Q) (f true q) (high .every q d) | false ↦ from-left (image (f false) Q) (image (f true) Q) (f false q) (low .every q d) ];
+          [ true ↦ either-right (image (f false) Q) (image (f true) Q) (f true q) (high .every q d) | false ↦ either-left (image (f false) Q) (image (f true) Q) (f false q) (low .every q d) ];
       no-other = λ x e.
           ⊎-elim
           (λ l. let (q, d, is) = low .no-other x l in (false, q, refl, d, is))

@@ -1,6 +1,7 @@
 -- Which bits are included: of one bit only, of one or the other, and that these decide the whole.
 use mathlib.Core.Path.{_≡_, refl, sym, ap, _∙_}
 use mathlib.Core.Bool.{Bool, true, false, not, Bool·beq, _||_, false≢true}
+use Rattle.std.proofs.shelf.Tests.{or-left, or-right}
 use Rattle.signal_value.specs.Possible.{Possible, only, both, includes, either}
 
 pub beq-refl : (b : Bool) → Bool·beq b b ≡ true
@@ -31,6 +32,12 @@ includes-either (only false) (only true) true = refl
 includes-either (only false) (only true) false = refl
 includes-either (only false) (only false) true = refl
 includes-either (only false) (only false) false = refl
+
+pub either-left : (P Q : Possible) (x : Bool) → includes P x ≡ true → includes (either P Q) x ≡ true
+either-left P Q x e = includes-either P Q x ∙ or-left _ _ e
+
+pub either-right : (P Q : Possible) (x : Bool) → includes Q x ≡ true → includes (either P Q) x ≡ true
+either-right P Q x e = includes-either P Q x ∙ or-right _ _ e
 
 other-bit : (b : Bool) → Bool·beq b (not b) ≡ true → ⊥
 other-bit true e = false≢true e
