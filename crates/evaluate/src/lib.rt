@@ -1,0 +1,10 @@
+// One evaluator for every kind of signal value.
+mod combine;
+mod connective;
+mod forced;
+mod operand;
+mod walk;
+
+pub use forced::Forced;
+pub use operand::value_of;
+pub use walk::evaluate;
