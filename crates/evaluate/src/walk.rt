@@ -46,7 +46,13 @@ fn compute<L: Logic>(gate: &Gate, inputs: &[L], values: &[L]) -> L
 }
 
 // The value of the gate with a number, given those of the gates before it.
-fn gate_value<L: Logic>(gate: &Gate, number: usize, inputs: &[L], before: &[L], forced: &[Forced<L>]) -> L
+fn gate_value<L: Logic>(
+    gate: &Gate,
+    number: usize,
+    inputs: &[L],
+    before: &[L],
+    forced: &[Forced<L>],
+) -> L
     ensures { λ r. ⌜ ((i : ℕ) → i < L·Logic .lanes → L·Logic .stands r i ≡ gateStands (laneForcing (L·Logic .stands) i (now (forced .entry))) (inLane (L·Logic .stands) i (now (inputs .entry))) number (inLane (L·Logic .stands) i (now (before .entry))) (gateOf (now (gate .entry)))) ⌝ }
 {
     match forced_at(forced, number) {

@@ -35,7 +35,7 @@ among-push (Q ∷ Ps) [] P b a e = absurd a
 among-push (Q ∷ Ps) (c ∷ bs) P b a e = (a .0, among-push Ps bs P b (a .1) e)
 
 module _ (Ps : List Possible) (inputs : List Bool) (given : Among Ps inputs) where
-  signal-among : (Vs : List Possible) (vs : List Bool) → Among Vs vs → (o : Signal) → includes (standing Ps Vs o) (value inputs vs o) ≡ true
+  pub signal-among : (Vs : List Possible) (vs : List Bool) → Among Vs vs → (o : Signal) → includes (standing Ps Vs o) (value inputs vs o) ≡ true
   signal-among Vs vs a (signal.Input zero) = refl
   signal-among Vs vs a (signal.Input (suc i)) = among-at Ps inputs given i
   signal-among Vs vs a (signal.Gate zero) = refl

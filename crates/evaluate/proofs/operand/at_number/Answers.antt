@@ -8,7 +8,7 @@ pub returns-then-number-values : need.returns-then-number-values
 returns-then-number-values g c = λ i h. numbered-at (λ v. g .L·Logic .stands v i) (c .args .values .now) (c .args .number) (c .index-values-number .result) (omega arith) (omega arith) (c .index-values-number .is)
 
 pub returns-else-number-ge1 : need.returns-else-number-ge1
-returns-else-number-ge1 g c = λ i h. 
+returns-else-number-ge1 g c = λ i h.
     c .constant .ensures i h
     ∙ ⊎-elim
     (λ past. numbered-past (λ v. g .L·Logic .stands v i) (c .args .values .now) (c .args .number) (past .1))

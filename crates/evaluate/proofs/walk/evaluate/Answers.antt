@@ -17,11 +17,13 @@ loop-i-holds g c =
 
 pub loop-i-again : need.loop-i-again
 loop-i-again g c =
-    let room : c .loop-i .i < length (c .loop-i .values) = omega arith in
-    (c .loop-i .inv .0, simp length-set (c .loop-i .inv .1),
-     λ k h.
-     gate-more (λ v. g .L·Logic .stands v k) (laneForcing (g .L·Logic .stands) k (c .args .forced .now)) (inLane (g .L·Logic .stands) k (c .args .inputs .now)) (c .loop-i .values) (c .gates-gates .result .now) (c .loop-i .i) (c .gate-value-value .result) (c .index-gates-i .result) (c .loop-i-test .taken) room (c .index-gates-i .is) (c .loop-i .i - 0) (omega arith) (c .gate-value-value .ensures k h)
-     ∙ c .loop-i .inv .2 k h)
+    let room : c .loop-i .i < length (c .loop-i .values) = omega arith in (
+      c .loop-i .inv .0,
+      simp length-set (c .loop-i .inv .1),
+      λ k h.
+          gate-more (λ v. g .L·Logic .stands v k) (laneForcing (g .L·Logic .stands) k (c .args .forced .now)) (inLane (g .L·Logic .stands) k (c .args .inputs .now)) (c .loop-i .values) (c .gates-gates .result .now) (c .loop-i .i) (c .gate-value-value .result) (c .index-gates-i .result) (c .loop-i-test .taken) room (c .index-gates-i .is) (c .loop-i .i - 0) (omega arith) (c .gate-value-value .ensures k h)
+          ∙ c .loop-i .inv .2 k h,
+    )
 
 pub returns : need.returns
 returns g c =
