@@ -1,5 +1,6 @@
 // Texts at the limits, made up line by line.
 use crate::show;
+use crate::tell;
 use std::alloc::AllocError;
 use std::alloc::Global;
 use std::error::AnyError;
@@ -31,7 +32,8 @@ pub fn at_limits(rt: &LibcRuntime) -> Result<(), AnyError> {
     let gates = sized(heap, 1, 257, 1)?;
     show(rt, "257 gates", gates.as_bytes())?;
     let outputs = sized(heap, 1, 65, 65)?;
-    show(rt, "65 outputs", outputs.as_bytes())
+    show(rt, "65 outputs", outputs.as_bytes())?;
+    tell(rt, outputs.as_bytes())
 }
 
 // A small netlist with a comment that makes the text so long.
@@ -47,5 +49,6 @@ pub fn long_text(rt: &LibcRuntime) -> Result<(), AnyError> {
     let longest = padded(rt.alloc(), 60000)?;
     show(rt, "60000 bytes", longest.as_bytes())?;
     let longer = padded(rt.alloc(), 60001)?;
-    show(rt, "60001 bytes", longer.as_bytes())
+    show(rt, "60001 bytes", longer.as_bytes())?;
+    tell(rt, longer.as_bytes())
 }

@@ -2,6 +2,7 @@
 use large::at_limits;
 use large::long_text;
 use netlist::Netlist;
+use netlist::ReadFaultDisplay;
 use refusal::RefusalDisplay;
 use std::error::AnyError;
 use table::bad_bytes;
@@ -33,6 +34,25 @@ fn show(rt: &LibcRuntime, label: &str, text: &[u8]) -> Result<(), AnyError> {
     Ok(())
 }
 
+// What is wrong with a text, in words.
+fn tell(rt: &LibcRuntime, text: &[u8]) -> Result<(), AnyError> {
+    let mut netlist = Netlist::new(rt.alloc())?;
+    if let Err(fault) = netlist.load(text) {
+        println!(rt, "{fault}")?;
+    }
+    Ok(())
+}
+
+fn sentences(rt: &LibcRuntime) -> Result<(), AnyError> {
+    tell(rt, b"\x00")?;
+    tell(rt, b" ")?;
+    tell(rt, b"a = NOT(a, a)")?;
+    tell(rt, b"INPUT(a)\nINPUT(a)")?;
+    tell(rt, b"a = NOT(a)")?;
+    tell(rt, b"")?;
+    tell(rt, b"INPUT(a)\nOUTPUT(x)\ny = NOT(a)")
+}
+
 // A second load is not due, and leaves what is in.
 fn twice(rt: &LibcRuntime) -> Result<(), AnyError> {
     let mut netlist = Netlist::new(rt.alloc())?;
@@ -42,7 +62,7 @@ fn twice(rt: &LibcRuntime) -> Result<(), AnyError> {
     }
     if let Err(fault) = netlist.load(b"") {
         let refusal = fault.refusal();
-        println!(rt, "second load: {refusal}")?;
+        println!(rt, "second load: {refusal}: {fault}")?;
     }
     if let Some(circuit) = netlist.circuit() {
         println!(
@@ -64,7 +84,8 @@ fn run(rt: &LibcRuntime) -> Result<(), AnyError> {
     bad_wholes(rt)?;
     at_limits(rt)?;
     long_text(rt)?;
-    twice(rt)
+    twice(rt)?;
+    sentences(rt)
 }
 
 fn main(rt: LibcRuntime) -> Result<(), AnyError> {

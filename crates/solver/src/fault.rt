@@ -1,0 +1,9 @@
+// Why a solver refuses a call.
+#[derive(Clone, Copy, PartialEq, Eq, Debug)]
+pub enum SolverFault {
+    TooManyVariables,
+    UnknownVariable,
+    TooLong,
+    NoRoom,
+    NoValue,
+}

@@ -1,0 +1,3 @@
+pub mod Solving
+pub mod Splitting
+pub mod Chaining

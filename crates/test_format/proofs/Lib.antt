@@ -1,0 +1,12 @@
+pub mod Packed
+pub mod Marked
+pub mod Grouped
+pub mod ReadBack
+pub mod Taken
+pub mod Cutting
+pub mod Pieces
+pub mod OneOutput
+pub mod BitAt
+pub mod Filling
+pub mod Holding
+pub mod StayFit

@@ -1,0 +1,5 @@
+pub mod Packing
+pub mod Records
+pub mod Logs
+pub mod Amending
+pub mod Law
