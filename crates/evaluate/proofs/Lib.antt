@@ -1,0 +1,5 @@
+mod Numbered
+mod KindImages
+mod ForcedPlaces
+mod GateCount
+mod GateByGate

@@ -1,0 +1,3 @@
+-- What the evaluator takes, and what its values say.
+pub mod Forced
+pub mod Connectives

@@ -1,0 +1,4 @@
+pub mod GateImages
+pub mod Covered
+pub mod Known
+pub mod Folded

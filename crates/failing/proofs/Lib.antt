@@ -1,0 +1,5 @@
+mod Packed
+mod Filling
+mod Agreed
+mod InLanes
+mod Unexplained

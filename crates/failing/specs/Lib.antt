@@ -1,0 +1,3 @@
+-- Which tests a circuit misses, and the words that evaluate all tests at once.
+pub mod Missed
+pub mod Columns

@@ -1,0 +1,5 @@
+mod SetsAsked
+mod Forcings
+mod Writing
+mod Replayed
+mod KnownOutputs

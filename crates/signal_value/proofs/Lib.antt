@@ -1,0 +1,3 @@
+pub mod Included
+pub mod Images
+pub mod Lanes

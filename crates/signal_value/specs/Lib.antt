@@ -1,0 +1,4 @@
+-- What values stand for, and the law of the operations on them.
+pub mod Possible
+pub mod Law
+pub mod Kept
