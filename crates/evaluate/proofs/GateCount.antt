@@ -1,10 +1,10 @@
 -- How many gates and inputs a circuit has: at most 256 and 64.
 use mathlib.Core.Path.{_≡_, ap}
 use mathlib.Core.List.{List, map}
-use Prim.Native.Nat.{ℕ, _≤_}
+use Prim.Native.Nat.{_≤_}
 use native.Mathlib.Omega.{arith}
 use lib.ListN.{length}
-use Rattle.std.specs.Of.Vec.{vec-items, vec-len}
+use Rattle.std.specs.Of.Vec.{vec-items}
 use Rattle.std.proofs.shelf.Lists.{length-map}
 use Rattle.circuit.specs.declared.gate.Gate.{Gate as HeldGate}
 use Rattle.circuit.specs.declared.circuit.Circuit.{Circuit as HeldCircuit}

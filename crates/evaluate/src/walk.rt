@@ -1,6 +1,5 @@
 // The evaluator: the values of a circuit's gates, in file order, for any kind of signal value.
 ghost use mathlib.Core.Path.{_≡_};
-ghost use mathlib.Core.List.{map};
 ghost use Prim.Native.Nat.{ℕ, _<_};
 ghost use lib.ListN.{length, take};
 ghost use Rattle.circuit.specs.Circuits.{gateOf};

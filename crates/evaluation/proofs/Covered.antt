@@ -1,5 +1,5 @@
 -- The value of each gate is among the bits that the gate stands for.
-use mathlib.Core.Path.{_≡_, refl, sym, ap, subst, _∙_}
+use mathlib.Core.Path.{_≡_, refl, ap, _∙_}
 use mathlib.Core.Bool.{Bool, true, false, cond}
 use mathlib.Core.List.{List, [], _∷_, _++_, map}
 use Prim.Native.Nat.{ℕ, zero, suc}
@@ -15,8 +15,8 @@ use Rattle.circuit.specs.Circuits.{Gate}
 use Rattle.diagnosis.specs.Sets.{Marks}
 use Rattle.diagnosis.specs.Explains.{Values, value, computed, gateValue, simulate}
 use Rattle.signal_value.specs.Possible.{Possible, only, includes}
-use Rattle.evaluation.specs.Gates.{imageOf, Among}
-use Rattle.evaluation.specs.Evaluated.{Forcing, numbered, standing, computedStands, gateStands, evaluateFrom}
+use Rattle.evaluation.specs.Gates.{Among}
+use Rattle.evaluation.specs.Evaluated.{Forcing, standing, computedStands, gateStands, evaluateFrom}
 use Rattle.evaluation.specs.EvaluationLaws.{ForcedAmong, Evaluation-covers}
 use Rattle.evaluation.proofs.GateImages.{image-every}
 

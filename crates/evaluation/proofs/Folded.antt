@@ -1,6 +1,6 @@
 -- Combining the operands one after another gives the image of the gate's whole function.
 use mathlib.Core.Path.{_≡_, refl, sym, ap, _∙_}
-use mathlib.Core.Bool.{Bool, true, false, not, cond, Bool·beq, _&&_, _||_}
+use mathlib.Core.Bool.{Bool, true, false, not, cond, _&&_, _||_}
 use mathlib.Core.List.{List, [], _∷_}
 use Rattle.circuit.specs.Kinds.{odd}
 use Rattle.circuit.specs.Lists.{all, any}

@@ -13,9 +13,9 @@ use Rattle.circuit.specs.Kinds.{gives}
 use Rattle.circuit.specs.Circuits.{Gate}
 use Rattle.diagnosis.specs.Sets.{Marks}
 use Rattle.diagnosis.specs.Explains.{Values, value, computed, gateValue, simulate}
-use Rattle.signal_value.specs.Possible.{Possible, only}
+use Rattle.signal_value.specs.Possible.{only}
 use Rattle.evaluation.specs.Gates.{imageOf}
-use Rattle.evaluation.specs.Evaluated.{standing, computedStands, gateStands, evaluateFrom, forcing}
+use Rattle.evaluation.specs.Evaluated.{standing, gateStands, evaluateFrom, forcing}
 use Rattle.evaluation.specs.EvaluationLaws.{Evaluation-of-bits}
 
 only-at : (bs : List Bool) (n : ℕ) → getD (map only bs) n (only false) ≡ only (getD bs n false)

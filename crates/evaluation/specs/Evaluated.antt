@@ -6,7 +6,7 @@
 --   evaluateFrom   what the gates stand for, after the gates before; the first of them has number n
 --   evaluated      what all gates of a circuit stand for
 --   forcing        a bit forced on each marked gate
-use mathlib.Core.Bool.{Bool, false, cond}
+use mathlib.Core.Bool.{false, cond}
 use mathlib.Core.List.{List, [], _∷_, _++_, map}
 use Prim.Native.Nat.{ℕ, zero, suc}
 use lib.ListN.{getD}

@@ -1,6 +1,5 @@
 -- A test is missed exactly if the empty set does not explain it: where nothing is marked, forced values have no effect.
-use mathlib.Core.Path.{_≡_, sym, ap, _∙_}
-use mathlib.Core.Bool.{Bool, true, false, not, false≢true}
+use mathlib.Core.Bool.{true, false, not, false≢true}
 use mathlib.Core.List.{[]}
 use Rattle.std.proofs.shelf.Tests.{not-false, not-from-true}
 use Rattle.diagnosis.specs.Sets.{member}

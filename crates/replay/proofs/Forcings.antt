@@ -2,18 +2,17 @@
 use mathlib.Core.Path.{_≡_, refl, sym, ap, _∙_}
 use mathlib.Core.Bool.{Bool, true, false, cond, _||_}
 use mathlib.Core.List.{List, [], _∷_, _++_, map}
-use Prim.Native.Nat.{ℕ, _+_, _/_, _%_, _<_, _≤_}
+use Prim.Native.Nat.{ℕ, _+_, _/_, _%_, _<_}
 use lib.Dec.{eqb}
 use lib.ListN.{length, take, drop, set, getD}
 use Rattle.std.specs.Options.{mapped}
-use Rattle.std.specs.declared.option.Option.{Option}
 use Rattle.std.specs.declared.option.Option.the-variants.{Some, None}
-use Rattle.std.proofs.shelf.Lists.{append-assoc, append-nil, at-drop-more, at-drop-all, take-more-set}
+use Rattle.std.proofs.shelf.Lists.{append-assoc, at-drop-more, take-more-set}
 use Rattle.diagnosis.specs.Sets.{member}
 use Rattle.diagnosis.specs.Readings.{forcedBy}
 use Rattle.signal_value.specs.declared.doubtful.Doubtful.{Doubtful}
 use Rattle.signal_value.specs.declared.doubtful.Doubtful.the-variants.{Unknown}
-use Rattle.signal_value.specs.Possible.{Possible, only, both}
+use Rattle.signal_value.specs.Possible.{only, both}
 use Rattle.signal_value.specs.Kept.{known}
 use Rattle.evaluation.specs.Evaluated.{Forcing, forcing}
 use Rattle.evaluate.specs.declared.forced.Forced.{Forced}

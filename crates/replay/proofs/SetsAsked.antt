@@ -1,15 +1,14 @@
 -- Numbers that ascend up to a limit are sets; and the loop that tells, at place k.
-use mathlib.Core.Path.{_≡_, refl, sym, ap, _∙_}
-use mathlib.Core.Bool.{Bool, true, false, _&&_}
+use mathlib.Core.Path.{_≡_, refl, ap, _∙_}
+use mathlib.Core.Bool.{true, false, _&&_}
 use mathlib.Core.List.{List, [], _∷_}
 use Prim.Native.Nat.{ℕ, suc, _+_, _<_, _≤_}
-use native.Mathlib.Omega.{arith}
 use lib.Dec.{leb, ltb}
 use lib.ListN.{length, drop, getD}
 use Rattle.std.proofs.shelf.Lists.{at-drop-more, at-drop-all}
 use Rattle.std.proofs.shelf.Tests.{and-parts, and-from, and-left, and-right, leb-true, le-leb, lt-leb, lt-ltb, le-ltb, ltb-true}
 use Rattle.diagnosis.specs.Sets.{Ascends}
-use Rattle.replay.specs.Asked.{above, isSet, Sets-admitted}
+use Rattle.replay.specs.Asked.{above, Sets-admitted}
 
 above-ascends : (a n : ℕ) (S : List ℕ) → above a n S ≡ true → Ascends (suc a) n S
 above-ascends a n [] e = tt

@@ -5,16 +5,15 @@
 --   replayed     the bytes of a test's gates, with a byte forced on a set
 --   settled      the bytes of the outputs, with the gates of a set unknown
 use mathlib.Core.Bool.{Bool, cond}
-use mathlib.Core.List.{List, [], _∷_, _++_, map}
-use Prim.Native.Nat.{ℕ, _/_, _%_}
-use lib.Dec.{eqb}
+use mathlib.Core.List.{List, _++_, map}
+use Prim.Native.Nat.{ℕ}
 use lib.ListN.{length, drop}
 use Rattle.std.specs.declared.option.Option.the-variants.{Some, None}
 use Rattle.circuit.specs.Circuits.{Circuit}
 use Rattle.diagnosis.specs.Sets.{member}
 use Rattle.diagnosis.specs.Explains.{values}
 use Rattle.diagnosis.specs.Readings.{forcedBy}
-use Rattle.signal_value.specs.Possible.{Possible, only, both}
+use Rattle.signal_value.specs.Possible.{only, both}
 use Rattle.signal_value.specs.Kept.{byteOf}
 use Rattle.evaluation.specs.Evaluated.{Forcing, standing, evaluated}
 

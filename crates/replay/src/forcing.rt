@@ -1,9 +1,7 @@
 // The values that a call forces on a set.
 ghost use mathlib.Core.Path.{_≡_};
-ghost use mathlib.Core.List.{map};
 ghost use Prim.Native.Nat.{_≤_};
 ghost use lib.ListN.{length, take};
-ghost use Rattle.signal_value.specs.Possible.{only};
 ghost use Rattle.signal_value.specs.Kept.{known};
 ghost use Rattle.replay.specs.ForcedSets.{forcedBits, forcedUnknown};
 use crate::asked::SET;

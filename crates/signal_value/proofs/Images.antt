@@ -1,6 +1,6 @@
 -- The images are what the law asks for, and nothing else is.
 use mathlib.Core.Path.{_≡_, refl, sym, ap, subst, _∙_}
-use mathlib.Core.Bool.{Bool, true, false, _||_}
+use mathlib.Core.Bool.{Bool, true, false}
 use mathlib.Core.Logic.{⊎-elim}
 use Rattle.std.proofs.shelf.Tests.{or-cases}
 use Rattle.signal_value.specs.Possible.{Possible, only, both, includes, either, image, image2}

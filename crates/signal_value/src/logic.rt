@@ -1,6 +1,6 @@
 // What an evaluator asks of a kind of signal values.
 ghost use mathlib.Core.Path.{_≡_};
-ghost use mathlib.Core.Bool.{Bool, not, _&&_, _||_};
+ghost use mathlib.Core.Bool.{not, _&&_, _||_};
 ghost use Prim.Native.Nat.{ℕ, _<_};
 ghost use Rattle.signal_value.specs.Possible.{Possible, only};
 ghost use Rattle.signal_value.specs.Law.{Follows, Follows2, xor};

@@ -1,6 +1,5 @@
-use mathlib.Core.Path.{_≡_, sym, refl, _∙_}
+use mathlib.Core.Path.{sym, refl, _∙_}
 use mathlib.Core.Bool.{not, true, false}
-use mathlib.Core.List.{map}
 use Rattle.circuit.specs.declared.gate.Signal.{Signal}
 use Rattle.circuit.specs.Listed.{listed}
 use Rattle.signal_value.specs.Possible.{Possible}

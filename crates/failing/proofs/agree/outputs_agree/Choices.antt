@@ -1,5 +1,5 @@
 use mathlib.Core.Path.{_≡_}
-use lib.ListN.{length, drop}
+use lib.ListN.{drop}
 use Rattle.diagnosis.specs.Explains.{agree}
 use Rattle.failing.specs.Columns.{inTest}
 use Rattle.failing.proofs.agree.outputs_agree.Given as given

@@ -1,13 +1,12 @@
-use mathlib.Core.Path.{_≡_, sym, ap, _∙_}
+use mathlib.Core.Path.{ap, _∙_}
 use mathlib.Core.Bool.{Bool, false}
-use mathlib.Core.List.{List, [], _∷_, map}
+use mathlib.Core.List.{map}
 use native.Mathlib.Omega.{arith}
 use Prim.Native.Nat.{_<_}
 use lib.ListN.{length, getD, length-set}
 use Rattle.testlog.specs.declared.test.Test.{Test as HeldTest}
 use Rattle.testlog.specs.Held.{testOf}
 use Rattle.failing.specs.Missed.{wordOf}
-use Rattle.failing.specs.Columns.{column}
 use Rattle.failing.proofs.Filling.{fill-more, fill-all, map-testOf}
 use Rattle.failing.proofs.columns.input_word.Needs as need
 

@@ -1,7 +1,7 @@
-use mathlib.Core.Path.{_≡_, refl, sym, ap, _∙_}
+use mathlib.Core.Path.{_≡_, sym}
 use mathlib.Core.Bool.{false}
 use native.Mathlib.Omega.{arith}
-use Prim.Native.Nat.{ℕ, _-_, _+_, _*_, _<_, _≤_, _^_}
+use Prim.Native.Nat.{_-_, _+_, _*_, _<_, _^_}
 use lib.ListN.{length, drop}
 use Rattle.std.proofs.shelf.Lists.{at-drop-all}
 use Rattle.failing.specs.Missed.{wordOf}

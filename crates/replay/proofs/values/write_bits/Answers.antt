@@ -1,6 +1,6 @@
-use mathlib.Core.Path.{_≡_, sym, ap, _∙_}
+use mathlib.Core.Path.{ap, _∙_}
 use native.Mathlib.Omega.{arith}
-use Prim.Native.Nat.{_<_, _≤_}
+use Prim.Native.Nat.{_<_}
 use lib.ListN.{length, set}
 use Rattle.replay.specs.Written.{bitByte}
 use Rattle.replay.proofs.Writing.{byte-of-bit, written-more, written-all}

@@ -1,7 +1,7 @@
-use mathlib.Core.Path.{_≡_, sym}
+use mathlib.Core.Path.{sym}
 use mathlib.Core.Bool.{_||_}
 use mathlib.Core.Logic.{⊎-elim}
-use Rattle.signal_value.specs.Possible.{both, image2}
+use Rattle.signal_value.specs.Possible.{image2}
 use Rattle.signal_value.specs.Kept.{known}
 use Rattle.signal_value.proofs.Images.{image2-follows-as}
 use Rattle.signal_value.proofs.ternary.DoubtfulLogic.or.Needs as need

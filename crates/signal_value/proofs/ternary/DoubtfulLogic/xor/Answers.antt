@@ -1,5 +1,5 @@
 use mathlib.Core.Path.{_≡_, refl, sym, ap, _∙_}
-use mathlib.Core.Bool.{Bool, true, false, not}
+use mathlib.Core.Bool.{true, false, not}
 use Rattle.signal_value.specs.Possible.{Possible, only, both, image, image2}
 use Rattle.signal_value.specs.Law.{xor}
 use Rattle.signal_value.specs.Kept.{known}
