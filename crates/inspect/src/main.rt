@@ -1,10 +1,12 @@
 // Describes the netlist in `case.net` and the tests in `case.tst`, or says what is wrong with them and where.
 mod describe;
 mod log;
+mod missed;
 
 use describe::describe;
 use log::describe_tests;
 use log::record_all;
+use missed::describe_missed;
 use netlist::Netlist;
 use netlist::ReadFault;
 use netlist::ReadFaultDisplay;
@@ -55,7 +57,10 @@ fn main(rt: LibcRuntime) -> io::Result<()> {
     };
     describe(&rt, circuit)?;
     match record_all(circuit, &mut tests, log.as_slice()) {
-        Ok(()) => describe_tests(&rt, &tests),
+        Ok(()) => {
+            describe_tests(&rt, &tests)?;
+            describe_missed(&rt, &netlist, circuit, &tests)
+        }
         Err(fault) => refuse_record(&rt, tests.len(), fault),
     }
 }
