@@ -153,6 +153,19 @@ def decode(inputs, outputs, held, record):
     return "".join(str(bit(applied, k)) for k in range(inputs)), "".join(shown)
 
 
+def gives(kind, bits):
+    plain = {b"AND": all, b"NAND": all, b"OR": any, b"NOR": any, b"NOT": any, b"XOR": lambda b: sum(b) % 2, b"XNOR": lambda b: sum(b) % 2}[kind]
+    return int(bool(plain(bits)) != (kind in (b"NAND", b"NOR", b"NOT", b"XNOR")))
+
+
+def missed(inputs, gates, outputs, test):
+    """The names of the outputs at which the test measured something else than the netlist gives."""
+    value = {entry[1]: int(bit) for entry, bit in zip(inputs, test[0])}
+    for _, name, kind, operands in gates:
+        value[name] = gives(kind, [value[n] for n in operands])
+    return [name.decode() for (_, name), shown in zip(outputs, test[1]) if shown not in ("-", str(value[name]))]
+
+
 def answer(text, log):
     try:
         inputs, gates, outputs = read(text)
@@ -168,7 +181,12 @@ def answer(text, log):
     except Refused as r:
         return lines + ["! %d %d %d" % r.args]
     lines.append("tests %d" % len(tests))
-    return lines + ["test %d inputs %s outputs %s" % ((k,) + t) for k, t in enumerate(tests)]
+    lines += ["test %d inputs %s outputs %s" % ((k,) + t) for k, t in enumerate(tests)]
+    for k, t in enumerate(tests):
+        names = missed(inputs, gates, outputs, t)
+        if names:
+            lines.append(" ".join(["missed %d at" % k] + names))
+    return lines
 
 
 def random_log(r, text):
