@@ -41,7 +41,24 @@ fn full_circuit(heap: Global) -> Result<Circuit, AllocError> {
 
 fn full_tests(heap: Global, circuit: &Circuit) -> Result<TestTable, AllocError> {
     let mut tests = TestTable::new(heap)?;
-    let record = [255, 255, 255, 255, 165, 165, 165, 165, 165, 165, 165, 165, 0, 0, 0, 0];
+    let record = [
+        255,
+        255,
+        255,
+        255,
+        165,
+        165,
+        165,
+        165,
+        165,
+        165,
+        165,
+        165,
+        0,
+        0,
+        0,
+        0,
+    ];
     for _ in 0..32 {
         let _ = tests.record(circuit, &record);
     }
@@ -49,7 +66,13 @@ fn full_tests(heap: Global, circuit: &Circuit) -> Result<TestTable, AllocError> 
 }
 
 // How many lines there are from one number up to another, and their bytes.
-fn write_lines(circuit: &Circuit, tests: &TestTable, bound: Bound, from: usize, to: usize) -> (usize, usize) {
+fn write_lines(
+    circuit: &Circuit,
+    tests: &TestTable,
+    bound: Bound,
+    from: usize,
+    to: usize,
+) -> (usize, usize) {
     let mut lines: usize = 0;
     let mut bytes: usize = 0;
     for line in from..to {
@@ -63,7 +86,13 @@ fn write_lines(circuit: &Circuit, tests: &TestTable, bound: Bound, from: usize, 
 }
 
 // The time for the thousand lines from this number on.
-fn time_lines(rt: &LibcRuntime, circuit: &Circuit, tests: &TestTable, bound: Bound, from: usize) -> io::Result<()>
+fn time_lines(
+    rt: &LibcRuntime,
+    circuit: &Circuit,
+    tests: &TestTable,
+    bound: Bound,
+    from: usize,
+) -> io::Result<()>
     requires { ⌜ from ≤ 1000000 ⌝ }
 {
     let start = Instant::now(rt)?;
