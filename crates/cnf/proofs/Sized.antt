@@ -50,7 +50,7 @@ sized c t N before after sound n x y z h =
     record {
       count = (let q = h .count (under (before .count + length (integers cs)) (omega arith)) in omega arith);
       longest = omega arith;
-      prices = (let q = h .prices (under (before .prices + prices (integers cs)) (omega arith)) in omega arith)
+      prices = (let q = h .prices (under (before .prices + prices (integers cs)) (omega arith)) in omega arith);
     }
   where
     under : (n : ℕ) → n ≤ 1000000 → n < 2 ^ 64

@@ -10,7 +10,6 @@ use lib.IntN.{ℤ}
 use lib.ListN.{length}
 use Rattle.std.specs.Joined.{joined}
 use Rattle.cnf_theory.specs.Literals.{Literal, Clause, integer, integers}
-use Rattle.cnf_theory.specs.Variables.{countVariable}
 use Rattle.cnf_theory.specs.Counter.{from}
 
 pub integers-append : (a b : List Clause) → integers (a ++ b) ≡ integers a ++ integers b
@@ -49,7 +48,3 @@ module _ {K : Type 0} (took : K → List (List ℤ) → K → Type 0) (both : (s
 
   pub four : (s t u v w : K) (a b c d : List ℤ) → took s (a ∷ []) t → took t (b ∷ []) u → took u (c ∷ []) v → took v (d ∷ []) w → took s (a ∷ b ∷ c ∷ d ∷ []) w
   four s t u v w a b c d p q r x = both s t w (a ∷ []) _ p (both t u w (b ∷ []) _ q (both u v w (c ∷ []) _ r x))
-
-pub last-count : (G N : ℕ) → 1 ≤ G → countVariable G N (suc (G - 1)) (N + 1) ≡ countVariable G N G (suc N)
-last-count zero N h = absurd (omega arith)
-last-count (suc G) N h = let e : suc G - 1 ≡ G = omega arith in ap (λ n. suc G + (n * suc N + (N + 1))) e ∙ ap (λ n. suc G + (G * suc N + n)) (add-one N)

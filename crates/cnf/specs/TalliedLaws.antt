@@ -31,5 +31,5 @@ tallied-both s t u a b x y =
     record {
       count = λ h. let e = x .count (omega arith) in let f = y .count (omega arith) in omega arith;
       longest = omega arith;
-      prices = λ h. let e = x .prices (omega arith) in let f = y .prices (omega arith) in omega arith
+      prices = λ h. let e = x .prices (omega arith) in let f = y .prices (omega arith) in omega arith;
     }

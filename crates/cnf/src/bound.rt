@@ -17,7 +17,11 @@ impl Bound {
     pub fn new(value: usize) -> Option<Bound>
         ensures { λ r. ⌜ mapped (λ b. b .value) r ≡ cond (leb value 6) (Some value) None ⌝ }
     {
-        if value <= 6 { Some(Bound { value }) } else { None }
+        if value <= 6 {
+            Some(Bound { value })
+        } else {
+            None
+        }
     }
 
     pub fn value(self) -> usize

@@ -15,7 +15,11 @@ impl Literal {
         ensures literal { λ r. ⌜ literalOf r ≡ signed value variable ⌝ }
         ensures variable { λ r. ⌜ variableOf (literalOf r) ≡ variable ⌝ }
     {
-        if value { Literal::Positive(variable) } else { Literal::Negative(variable) }
+        if value {
+            Literal::Positive(variable)
+        } else {
+            Literal::Negative(variable)
+        }
     }
 
     // The literal as it is handed over.
@@ -71,7 +75,12 @@ fn long_clause(first: Literal, value: bool, operands: &[usize]) -> [i32; 9]
     clause
 }
 
-pub(crate) fn take_long<K: ClauseSink>(sink: &mut K, first: Literal, value: bool, operands: &[usize])
+pub(crate) fn take_long<K: ClauseSink>(
+    sink: &mut K,
+    first: Literal,
+    value: bool,
+    operands: &[usize],
+)
     requires ready { ⌜ K·ClauseSink .ready (now sink) ⌝ }
     requires sizes { ⌜ Small (variableOf (literalOf first)) ⌝ ∗ ⌜ All Small (now operands) ⌝ ∗ ⌜ length (now operands) ≤ 8 ⌝ }
     ensures ready { λ _. ⌜ K·ClauseSink .ready (now (sink .exit)) ⌝ }

@@ -61,7 +61,12 @@ pub fn variable_count(circuit: &Circuit, tests: &TestTable, bound: Bound) -> usi
 }
 
 // Hands the clauses of the formula to the sink, in order.
-pub fn write_formula<K: ClauseSink>(sink: &mut K, circuit: &Circuit, tests: &TestTable, bound: Bound)
+pub fn write_formula<K: ClauseSink>(
+    sink: &mut K,
+    circuit: &Circuit,
+    tests: &TestTable,
+    bound: Bound,
+)
     requires ready { ⌜ K·ClauseSink .ready (now sink) ⌝ }
     ensures ready { λ _. ⌜ K·ClauseSink .ready (now (sink .exit)) ⌝ }
     ensures took { λ _. ⌜ K·ClauseSink .took (now (sink .entry)) (integers (formula (circuitOf (now (circuit .entry))) (testsOf (now (tests .entry))) (bound .value))) (now (sink .exit)) ⌝ }

@@ -17,7 +17,13 @@ use crate::sink::ClauseSink;
 use circuit::Kind;
 
 // A literal of l is true just if the literals of all operands are.
-fn write_conjunction<K: ClauseSink>(sink: &mut K, value: bool, each: bool, l: usize, operands: &[usize])
+fn write_conjunction<K: ClauseSink>(
+    sink: &mut K,
+    value: bool,
+    each: bool,
+    l: usize,
+    operands: &[usize],
+)
     requires ready { ⌜ K·ClauseSink .ready (now sink) ⌝ }
     requires sizes { ⌜ Small l ⌝ ∗ ⌜ All Small (now operands) ⌝ ∗ ⌜ length (now operands) ≤ 8 ⌝ }
     ensures ready { λ _. ⌜ K·ClauseSink .ready (now (sink .exit)) ⌝ }

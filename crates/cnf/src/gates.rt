@@ -52,10 +52,30 @@ fn write_selection<K: ClauseSink>(sink: &mut K, s: usize, l: usize, w: usize, z:
     ensures ready { λ _. ⌜ K·ClauseSink .ready (now (sink .exit)) ⌝ }
     ensures took { λ _. ⌜ K·ClauseSink .took (now (sink .entry)) (integers (selection s l w z)) (now (sink .exit)) ⌝ }
 {
-    take_three(sink, Literal::Positive(s), Literal::Negative(l), Literal::Positive(z));
-    take_three(sink, Literal::Positive(s), Literal::Positive(l), Literal::Negative(z));
-    take_three(sink, Literal::Negative(s), Literal::Negative(w), Literal::Positive(z));
-    take_three(sink, Literal::Negative(s), Literal::Positive(w), Literal::Negative(z));
+    take_three(
+        sink,
+        Literal::Positive(s),
+        Literal::Negative(l),
+        Literal::Positive(z),
+    );
+    take_three(
+        sink,
+        Literal::Positive(s),
+        Literal::Positive(l),
+        Literal::Negative(z),
+    );
+    take_three(
+        sink,
+        Literal::Negative(s),
+        Literal::Negative(w),
+        Literal::Positive(z),
+    );
+    take_three(
+        sink,
+        Literal::Negative(s),
+        Literal::Positive(w),
+        Literal::Negative(z),
+    );
 }
 
 // How many clauses a gate has in a test.
@@ -83,7 +103,13 @@ fn write_gate<K: ClauseSink>(sink: &mut K, base: usize, inputs: usize, before: u
 }
 
 // The same, unless the sink passes them.
-fn write_gate_or_pass<K: ClauseSink>(sink: &mut K, base: usize, inputs: usize, before: usize, gate: &Gate)
+fn write_gate_or_pass<K: ClauseSink>(
+    sink: &mut K,
+    base: usize,
+    inputs: usize,
+    before: usize,
+    gate: &Gate,
+)
     requires ready { ⌜ K·ClauseSink .ready (now sink) ⌝ }
     requires sizes { ⌜ base ≤ 90000 ⌝ ∗ ⌜ inputs ≤ 64 ⌝ ∗ ⌜ before < 256 ⌝ }
     requires fair { ⌜ Fair (now gate) ⌝ }

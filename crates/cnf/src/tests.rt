@@ -32,19 +32,34 @@ fn write_inputs<K: ClauseSink>(sink: &mut K, base: usize, inputs: &[bool])
 }
 
 // The value measured at an output, if one was.
-fn write_measured<K: ClauseSink>(sink: &mut K, base: usize, inputs: usize, output: Signal, measured: Option<bool>)
+fn write_measured<K: ClauseSink>(
+    sink: &mut K,
+    base: usize,
+    inputs: usize,
+    output: Signal,
+    measured: Option<bool>,
+)
     requires ready { ⌜ K·ClauseSink .ready (now sink) ⌝ }
     requires sizes { ⌜ base ≤ 90000 ⌝ ∗ ⌜ inputs ≤ 64 ⌝ ∗ ⌜ Near output ⌝ }
     ensures ready { λ _. ⌜ K·ClauseSink .ready (now (sink .exit)) ⌝ }
     ensures took { λ _. ⌜ K·ClauseSink .took (now (sink .entry)) (integers (measuredClauses base inputs output measured)) (now (sink .exit)) ⌝ }
 {
     if let Some(value) = measured {
-        take_one(sink, Literal::signed(value, signal_variable(base, inputs, output)));
+        take_one(
+            sink,
+            Literal::signed(value, signal_variable(base, inputs, output)),
+        );
     }
 }
 
 // The values measured at the outputs.
-fn write_outputs<K: ClauseSink>(sink: &mut K, base: usize, inputs: usize, outputs: &[Signal], measured: &[Option<bool>])
+fn write_outputs<K: ClauseSink>(
+    sink: &mut K,
+    base: usize,
+    inputs: usize,
+    outputs: &[Signal],
+    measured: &[Option<bool>],
+)
     requires ready { ⌜ K·ClauseSink .ready (now sink) ⌝ }
     requires sizes { ⌜ base ≤ 90000 ⌝ ∗ ⌜ inputs ≤ 64 ⌝ }
     requires near { ⌜ All Near (now outputs) ⌝ }
@@ -90,18 +105,32 @@ fn write_test<K: ClauseSink>(sink: &mut K, base: usize, circuit: &Circuit, test:
 {
     write_inputs(sink, base, test.inputs());
     write_gates(sink, base, circuit.inputs(), circuit.gates());
-    write_outputs(sink, base, circuit.inputs(), circuit.outputs(), test.outputs());
+    write_outputs(
+        sink,
+        base,
+        circuit.inputs(),
+        circuit.outputs(),
+        test.outputs(),
+    );
 }
 
 // The same, unless the sink passes them; `gates` is how many clauses the gates have.
-pub(crate) fn write_test_or_pass<K: ClauseSink>(sink: &mut K, base: usize, circuit: &Circuit, gates: usize, test: &Test)
+pub(crate) fn write_test_or_pass<K: ClauseSink>(
+    sink: &mut K,
+    base: usize,
+    circuit: &Circuit,
+    gates: usize,
+    test: &Test,
+)
     requires ready { ⌜ K·ClauseSink .ready (now sink) ⌝ }
     requires sizes { ⌜ base ≤ 90000 ⌝ ∗ ⌜ gates ≤ 3328 ⌝ }
     requires gates { ⌜ ((B I : ℕ) → length (gatesClauses B I 1 (circuitOf (now circuit) .gates)) ≡ gates) ⌝ }
     ensures ready { λ _. ⌜ K·ClauseSink .ready (now (sink .exit)) ⌝ }
     ensures took { λ _. ⌜ K·ClauseSink .took (now (sink .entry)) (integers (testClauses (circuitOf (now (circuit .entry))) base (testOf (now (test .entry))))) (now (sink .exit)) ⌝ }
 {
-    let count = test.inputs().len() + gates + outputs_clause_count(circuit.outputs(), test.outputs());
+    let count = test.inputs().len()
+        + gates
+        + outputs_clause_count(circuit.outputs(), test.outputs());
     if !sink.pass(count) {
         write_test(sink, base, circuit, test);
     }

@@ -70,8 +70,7 @@ settled false false e = refl
 
 pub conjunction-says : (ρ : Row) (x y : Bool) (l : ℕ) (xs : List ℕ) → Holds ρ (conjunction x y l xs) ↔ (trueIn ρ (signed x l) ≡ every ρ y xs)
 conjunction-says ρ x y l xs =
-    let front : List Clause = map (λ a. signed (not x) l ∷ signed y a ∷ []) xs in
-    (
+    let front : List Clause = map (λ a. signed (not x) l ∷ signed y a ∷ []) xs in (
       λ h. settle _ _ (each-sound ρ x y l xs (holds-left ρ front _ h)) (subst (λ (v : Bool). trueIn ρ (signed x l) || v ≡ true) (some-turned ρ y xs) (holds-right ρ front _ h .0)),
       λ e. holds-both ρ front _ (each-complete ρ x y l xs (λ f. sym e ∙ f)) (subst (λ (v : Bool). trueIn ρ (signed x l) || v ≡ true) (sym (some-turned ρ y xs)) (settled _ _ e), tt),
     )

@@ -93,6 +93,11 @@ tables-few f l xs (r ∷ rs) h =
     let s = excluding-short xs r in
     record { short = (omega arith, rest .short); few = omega arith }
 
+table-few : (f : List Bool → Bool) (l : ℕ) (xs : List ℕ) → length xs ≡ 2 → AtMost 9 (map (λ r. excluding xs r ++ signed (f r) l ∷ []) (rows (length xs)))
+table-few f l xs two =
+    let four : length (rows (length xs)) ≡ 4 = ap (λ k. length (rows k)) two in
+    more (length (rows (length xs))) 9 _ (omega arith) (tables-few f l xs (rows (length xs)) (omega arith))
+
 several-few : (n : ℕ) → several n ≡ true → n ≤ 8
 several-few n t = leb-true n 8 (and-parts (leb 2 n) (leb n 8) t .1)
 
@@ -102,14 +107,8 @@ function-few Nand l xs t = conjunction-few false true l xs (several-few (length 
 function-few Or l xs t = conjunction-few false false l xs (several-few (length xs) t)
 function-few Nor l xs t = conjunction-few true false l xs (several-few (length xs) t)
 function-few Not l xs t = let e = eqb-true (length xs) 1 t in conjunction-few false true l xs (omega arith)
-function-few Xor l xs t = two (gives Xor) (length xs) (eqb-true (length xs) 2 t)
-  where
-    two : (f : List Bool → Bool) (n : ℕ) → n ≡ 2 → AtMost 9 (map (λ r. excluding xs r ++ signed (f r) l ∷ []) (rows (length xs)))
-    two f n e = let few = tables-few f l xs (rows (length xs)) (let q = eqb-true (length xs) 2 t in omega arith) in let r : length (rows (length xs)) ≡ 4 = ap (λ k. length (rows k)) (eqb-true (length xs) 2 t) in more (length (rows (length xs))) 9 _ (omega arith) few
-function-few Xnor l xs t =
-    let q = eqb-true (length xs) 2 t in
-    let r : length (rows (length xs)) ≡ 4 = ap (λ k. length (rows k)) q in
-    more (length (rows (length xs))) 9 _ (omega arith) (tables-few (gives Xnor) l xs (rows (length xs)) (omega arith))
+function-few Xor l xs t = table-few (gives Xor) l xs (eqb-true (length xs) 2 t)
+function-few Xnor l xs t = table-few (gives Xnor) l xs (eqb-true (length xs) 2 t)
 
 selection-few : (s l w z : ℕ) → AtMost 4 (selection s l w z)
 selection-few s l w z = record { short = (omega arith, (omega arith, (omega arith, (omega arith, tt)))); few = omega arith }

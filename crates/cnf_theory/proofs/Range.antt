@@ -104,7 +104,7 @@ module _ (P : ℕ → Type 0) where
         let fit = gate-takes I m g gs f in
         each-both (gateClauses B I (suc m) g) _
         (each-both (function (g .kind) (computedVariable B I (suc m)) xs) _ (functions (g .kind) (computedVariable B I (suc m)) xs l (signals-in m (omega arith) (g .operands) (fit .1)))
-          ((s, (l, (z, tt))), ((s, (l, (z, tt))), ((s, (w, (z, tt))), ((s, (w, (z, tt))), tt)))))
+        ((s, (l, (z, tt))), ((s, (l, (z, tt))), ((s, (w, (z, tt))), ((s, (w, (z, tt))), tt)))))
         (gates-in gs (suc m) (omega arith) (fit .2))
 
     outputs-in : (os : List Signal) (ms : List (Option Bool)) → all (there I G) os ≡ true → Each (outputClauses B I os ms)
@@ -160,8 +160,8 @@ tests-in c N V sound n (t ∷ ts) fit le =
     let gates : (h j : ℕ) → h < G → 1 ≤ j → j ≤ 3 → UpTo V (gateVariable B I (suc h) j) = λ h j a b d. (omega arith, omega arith) in
     each-both (UpTo V) (testClauses c B t) _
     (each-both (UpTo V) (inputClauses B 1 (t .inputs) ++ gatesClauses B I 1 (c .gates)) _
-      (each-both (UpTo V) (inputClauses B 1 (t .inputs)) _ (inputs-in (UpTo V) B I G marks inputs gates 1 (t .inputs) (omega arith) (omega arith)) (gates-in (UpTo V) B I G marks inputs gates (c .gates) 0 (omega arith) (sound .in-order)))
-      (outputs-in (UpTo V) B I G marks inputs gates (c .outputs) (t .outputs) (sound .shown)))
+    (each-both (UpTo V) (inputClauses B 1 (t .inputs)) _ (inputs-in (UpTo V) B I G marks inputs gates 1 (t .inputs) (omega arith) (omega arith)) (gates-in (UpTo V) B I G marks inputs gates (c .gates) 0 (omega arith) (sound .in-order)))
+    (outputs-in (UpTo V) B I G marks inputs gates (c .outputs) (t .outputs) (sound .shown)))
     (tests-in c N V sound (suc n) ts (fit .1) (subst (λ (k : ℕ). base c N k ≤ V) (let e : n + suc (length ts) ≡ suc n + length ts = omega arith in e) le))
 
 pub within-variables : Within-variables

@@ -49,14 +49,14 @@ abbrev pub Inverter-lines : Type 0
 Inverter-lines =
     lines inverter (stuckHigh ∷ []) 0
     ≡ line (codes "p cnf 6 10")
-      ∷ line (codes "-1 2 0")
-      ∷ line (codes "-2 0")
-      ∷ line (codes "3 0")
-      ∷ line (codes "4 3 0")
-      ∷ line (codes "-4 -3 0")
-      ∷ line (codes "1 -4 6 0")
-      ∷ line (codes "1 4 -6 0")
-      ∷ line (codes "-1 -5 6 0")
-      ∷ line (codes "-1 5 -6 0")
-      ∷ line (codes "6 0")
-      ∷ []
+    ∷ line (codes "-1 2 0")
+    ∷ line (codes "-2 0")
+    ∷ line (codes "3 0")
+    ∷ line (codes "4 3 0")
+    ∷ line (codes "-4 -3 0")
+    ∷ line (codes "1 -4 6 0")
+    ∷ line (codes "1 4 -6 0")
+    ∷ line (codes "-1 -5 6 0")
+    ∷ line (codes "-1 5 -6 0")
+    ∷ line (codes "6 0")
+    ∷ []

@@ -32,7 +32,7 @@ abbrev pub Counts-to : Type 0
 Counts-to =
     (c : Circuit) (ts : List Test) (N k : ℕ) (s : Marks) → Sound c → All (FitsTest c) ts → k ≤ N
     → ((ρ : Row) × Marks-just (length (c .gates)) s ρ × Holds ρ (formula c ts N) × (ρ (countVariable (length (c .gates)) N (length (c .gates)) (suc k)) ≡ false))
-      ↔ ((count s (length (c .gates)) ≤ k) × ExplainsCase c s ts)
+    ↔ ((count s (length (c .gates)) ≤ k) × ExplainsCase c s ts)
 
 abbrev pub Within-variables : Type 0
 Within-variables =

@@ -20,7 +20,7 @@ appended-both s t u a b x y = record {
       let n = length-append a b in
       let e = x .put (omega arith) in
       let m = ap length e ∙ length-append (textOf s) a in
-      y .put (omega arith) ∙ ap (λ z. z ++ b) e ∙ append-assoc (textOf s) a b
+      y .put (omega arith) ∙ ap (λ z. z ++ b) e ∙ append-assoc (textOf s) a b;
 }
 
 pub appended-as : (s t : Text) (a b : List ℕ) → a ≡ b → Appended s a t → Appended s b t

@@ -46,14 +46,14 @@ is-clause cs j s t short off at p =
     let n : length (integers cs) ≡ length cs = length-map cs (map integer) in
     record {
       found = λ on. ⊎-elim
-        (λ (lt : j < length cs).
+          (λ (lt : j < length cs).
           let e : getD (integers cs) (s .skip) [] ≡ map integer (getD cs j []) = ap (λ k. getD (integers cs) k []) at ∙ handed-at cs j lt in
           let few = short-at cs j lt short in
           let k = ap length e ∙ length-map (getD cs j []) integer in
           let h = p .here off (omega arith) (omega arith) in
           (lt, h .0 ∙ e, h .1))
-        (λ (le : length cs ≤ j). absurd (both-ways (t .found) (p .before off (omega arith) .0) on))
-        (cases-lt j (length cs));
+          (λ (le : length cs ≤ j). absurd (both-ways (t .found) (p .before off (omega arith) .0) on))
+          (cases-lt j (length cs));
       none = λ off′. ⊎-elim (λ (lt : j < length cs). absurd (both-ways (t .found) off′ (p .found off (omega arith)))) (λ (le : length cs ≤ j). le) (cases-lt j (length cs));
     }
 

@@ -32,11 +32,11 @@ picked-both s t u a b x y =
       past = λ h. y .past (ap (λ (l : Pick). l .found) (x .past h) ∙ h) ∙ x .past h;
       before = λ h l. let p = x .before h (omega arith) in let e = p .1 in let q = y .before (p .0) (omega arith) in (q .0, let f = q .1 in omega arith);
       found = λ h l. ⊎-elim
-        (λ (lt : s .skip < length a). ap (λ (k : Pick). k .found) (y .past (x .found h lt)) ∙ x .found h lt)
-        (λ (le : length a ≤ s .skip). let p = x .before h le in let e = p .1 in y .found (p .0) (omega arith))
-        (cases-lt (s .skip) (length a));
+          (λ (lt : s .skip < length a). ap (λ (k : Pick). k .found) (y .past (x .found h lt)) ∙ x .found h lt)
+          (λ (le : length a ≤ s .skip). let p = x .before h le in let e = p .1 in y .found (p .0) (omega arith))
+          (cases-lt (s .skip) (length a));
       here = λ h l w. ⊎-elim
-        (λ (lt : s .skip < length a). subst (λ (k : Pick). (take (k .count) (k .literals) ≡ getD (a ++ b) (s .skip) []) × (k .count ≤ 9)) (sym (y .past (x .found h lt))) (let p = x .here h lt (subst (λ (c : List ℤ). length c ≤ 9) (front a b (s .skip) lt) w) in (p .0 ∙ sym (front a b (s .skip) lt), p .1)))
-        (λ (le : length a ≤ s .skip). let p = x .before h le in let e = p .1 in let q = back a b (s .skip) (t .skip) e in let r = y .here (p .0) (omega arith) (subst (λ (c : List ℤ). length c ≤ 9) q w) in (r .0 ∙ sym q, r .1))
-        (cases-lt (s .skip) (length a))
+          (λ (lt : s .skip < length a). subst (λ (k : Pick). (take (k .count) (k .literals) ≡ getD (a ++ b) (s .skip) []) × (k .count ≤ 9)) (sym (y .past (x .found h lt))) (let p = x .here h lt (subst (λ (c : List ℤ). length c ≤ 9) (front a b (s .skip) lt) w) in (p .0 ∙ sym (front a b (s .skip) lt), p .1)))
+          (λ (le : length a ≤ s .skip). let p = x .before h le in let e = p .1 in let q = back a b (s .skip) (t .skip) e in let r = y .here (p .0) (omega arith) (subst (λ (c : List ℤ). length c ≤ 9) q w) in (r .0 ∙ sym q, r .1))
+          (cases-lt (s .skip) (length a));
     }

@@ -48,7 +48,11 @@ fn line_text(circuit: &Circuit, tests: &TestTable, bound: Bound, line: usize) ->
     let mut text = Text::empty();
     if line == 1 {
         let sizes = formula_sizes(circuit, tests, bound);
-        push_head(&mut text, variable_count(circuit, tests, bound), sizes.count);
+        push_head(
+            &mut text,
+            variable_count(circuit, tests, bound),
+            sizes.count,
+        );
         return Some(text);
     }
     let pick = clause_at(circuit, tests, bound, line - 2);
@@ -76,7 +80,13 @@ const NO_SUCH_LINE: Refusal = Refusal {
 };
 
 // Writes the line of this number, counted from 1, into the buffer, and tells its length.
-pub fn formula_line(circuit: &Circuit, tests: &TestTable, bound: Bound, line: usize, buffer: &mut [u8]) -> Result<usize, Refusal>
+pub fn formula_line(
+    circuit: &Circuit,
+    tests: &TestTable,
+    bound: Bound,
+    line: usize,
+    buffer: &mut [u8],
+) -> Result<usize, Refusal>
     ensures answer { λ r. ⌜ r ≡ told (now (buffer .entry)) (lineAt (lines (circuitOf (now (circuit .entry))) (testsOf (now (tests .entry))) (bound .value)) line) ⌝ }
     ensures after { λ _. ⌜ now (buffer .exit) ≡ left (now (buffer .entry)) (lineAt (lines (circuitOf (now (circuit .entry))) (testsOf (now (tests .entry))) (bound .value)) line) ⌝ }
 {

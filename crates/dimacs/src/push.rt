@@ -1,7 +1,6 @@
 // Text put together: bytes and numbers at its end.
 ghost use mathlib.Core.Path.{_≡_};
 ghost use mathlib.Core.List.{[], _∷_};
-
 ghost use Rattle.dimacs.specs.Texts.{textOf, Appended};
 use crate::text::Text;
 

@@ -46,8 +46,8 @@ returns g c =
     record {
       ready = c .write-tests .ensures .ready;
       took = wrote-both took both _ _ _ _ _
-        (wrote-both took both _ _ _ _ _
+          (wrote-both took both _ _ _ _ _
           (wrote-as took both _ _ _ _ (λ j. counter (e j) (n j)) (c .write-counter-or-pass .ensures .took))
           (wrote-as took both _ _ _ _ (λ j. limit (e j) (n j) (n j)) (c .write-limit .ensures .took)))
-        (wrote-as took both _ _ _ _ (λ j. testsClauses (circuitOf (c .args .circuit .now)) (n j) 0 (c .tests .ensures j)) (c .write-tests .ensures .took))
+          (wrote-as took both _ _ _ _ (λ j. testsClauses (circuitOf (c .args .circuit .now)) (n j) 0 (c .tests .ensures j)) (c .write-tests .ensures .took));
     }

@@ -14,7 +14,7 @@ use Rattle.cnf.proofs.function.write_conjunction.Needs as need
 pub take-two-requires : need.take-two-requires
 take-two-requires g c κs = record {
   ready = c .loop-a .inv .0;
-  small = (subst Small (sym (c .signed .ensures .variable)) (c .pre .sizes .0), subst Small (sym (c .signed-in-loop-a .ensures .variable)) (all-at Small (c .args .operands .now) (c .loop-a .a-index) 0 (c .loop-a-test .taken) (c .pre .sizes .1 .0)))
+  small = (subst Small (sym (c .signed .ensures .variable)) (c .pre .sizes .0), subst Small (sym (c .signed-in-loop-a .ensures .variable)) (all-at Small (c .args .operands .now) (c .loop-a .a-index) 0 (c .loop-a-test .taken) (c .pre .sizes .1 .0)));
 }
 
 pub loop-a-again : need.loop-a-again
@@ -31,5 +31,5 @@ returns g c =
     let f : ℕ → Clause = λ a. signed (not (c .args .value)) (c .args .l) ∷ signed (c .args .each) a ∷ [] in
     record {
       ready = c .take-long .ensures .ready;
-      took = wrote-both took both _ _ _ _ _ (wrote-as took both _ _ _ _ (ap (map f) (take-all _ _ (c .loop-a-test .left))) (c .loop-a .inv .1)) (head-is took both _ _ _ _ _ (c .take-long .ensures .took) (c .signed-2 .ensures .literal))
+      took = wrote-both took both _ _ _ _ _ (wrote-as took both _ _ _ _ (ap (map f) (take-all _ _ (c .loop-a-test .left))) (c .loop-a .inv .1)) (head-is took both _ _ _ _ _ (c .take-long .ensures .took) (c .signed-2 .ensures .literal));
     }

@@ -16,8 +16,8 @@ returns g c =
     record {
       ready = c .take-three-4 .ensures .ready;
       took = four took both _ _ _ _ _ _ _ _ _
-        (third-is took both _ _ (positive a) (positive b) _ _ (c .take-three .ensures .took) even)
-        (third-is took both _ _ (negative a) (positive b) _ _ (c .take-three-2 .ensures .took) uneven)
-        (third-is took both _ _ (positive a) (negative b) _ _ (c .take-three-3 .ensures .took) uneven)
-        (third-is took both _ _ (negative a) (negative b) _ _ (c .take-three-4 .ensures .took) even)
+          (third-is took both _ _ (positive a) (positive b) _ _ (c .take-three .ensures .took) even)
+          (third-is took both _ _ (negative a) (positive b) _ _ (c .take-three-2 .ensures .took) uneven)
+          (third-is took both _ _ (positive a) (negative b) _ _ (c .take-three-3 .ensures .took) uneven)
+          (third-is took both _ _ (negative a) (negative b) _ _ (c .take-three-4 .ensures .took) even);
     }

@@ -22,5 +22,5 @@ returns c =
     let n : length (listed (g .operands)) ≡ length (c .as-slice .result .now) = ap length (sym (c .as-slice .ensures)) in
     record {
       clauses = λ B I k. gate-length B I k _ g (c .function-clause-count .ensures .clauses (ap (takes (g .kind)) (sym n) ∙ c .pre .1) (computedVariable B I k) (variablesOf B I (listed (g .operands))) (length-map (listed (g .operands)) (signalVariable B I) ∙ n));
-      few = omega arith
+      few = omega arith;
     }

@@ -21,8 +21,7 @@ loop-gate-again c =
     let gs = c .args .gates .now in
     let gate = c .gate-item .result in
     let few = c .gate-clause-count-count .ensures .few in
-    let so-far = c .loop-gate .inv .1 in
-    (
+    let so-far = c .loop-gate .inv .1 in (
       λ B I. ap length (gates-more B I gs i gate (c .loop-gate-test .taken)) ∙ length-append (gatesClauses B I 1 (map gateOf (take i gs))) _ ∙ (λ j. c .loop-gate .inv .0 B I j + (ap (λ x. length (gateClauses B I (suc i) (gateOf x))) (sym (c .gate-item .is)) ∙ c .gate-clause-count-count .ensures .clauses B I (suc i)) j),
       omega arith,
     )

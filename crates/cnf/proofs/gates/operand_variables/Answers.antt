@@ -22,5 +22,5 @@ returns c =
     let e : length (c .args .operands .now) ≡ c .loop-i .i = omega arith in
     record {
       value = ap (λ n. take n (c .loop-i .variables)) e ∙ c .loop-i .inv .1 ∙ ap (variablesOf (c .args .base) (c .args .inputs)) (take-all _ _ (c .loop-i-test .left));
-      small = small-variables (c .args .base) (c .args .inputs) (c .args .operands .now) (c .pre .sizes .0) (c .pre .sizes .1 .0) (c .pre .near)
+      small = small-variables (c .args .base) (c .args .inputs) (c .args .operands .now) (c .pre .sizes .0) (c .pre .sizes .1 .0) (c .pre .near);
     }

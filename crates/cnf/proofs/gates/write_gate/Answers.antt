@@ -21,5 +21,5 @@ returns g c =
     let same : take (length (c .as-slice-signals .result .now)) (c .operand-variables-operands .result) ≡ variablesOf B I (listed (c .args .gate .now .operands)) = c .operand-variables-operands .ensures .value ∙ ap (variablesOf B I) signals in
     record {
       ready = c .write-selection .ensures .ready;
-      took = wrote-as took both _ _ _ _ (gate-is B I (c .args .before) (c .args .gate .now) _ same) (wrote-both took both _ _ _ _ _ (c .write-function .ensures .took) (c .write-selection .ensures .took))
+      took = wrote-as took both _ _ _ _ (gate-is B I (c .args .before) (c .args .gate .now) _ same) (wrote-both took both _ _ _ _ _ (c .write-function .ensures .took) (c .write-selection .ensures .took));
     }

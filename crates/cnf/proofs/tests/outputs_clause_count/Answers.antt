@@ -16,8 +16,7 @@ loop-i-again c =
     let a : i < length os = omega arith in
     let b : i < length ms = omega arith in
     let few = c .output-clause-count-found .ensures .few in
-    let so-far = c .loop-i .inv .1 in
-    (
+    let so-far = c .loop-i .inv .1 in (
       λ B I. ap length (output-more B I os ms i (signal.Input 0) _ a b) ∙ length-append (outputClauses B I (take i os) (take i ms)) _ ∙ (λ j. c .loop-i .inv .0 B I j + c .output-clause-count-found .ensures .clauses B I (getD os i (signal.Input 0)) j),
       omega arith,
     )

@@ -35,8 +35,8 @@ returns g c =
     record {
       ready = c .write-outputs .ensures .ready;
       took = wrote-both took both _ _ _ _ _
-        (wrote-both took both _ _ _ _ _
+          (wrote-both took both _ _ _ _ _
           (wrote-as took both _ _ _ _ (ap (inputClauses B 1) (c .inputs .ensures)) (c .write-inputs .ensures .took))
           (wrote-as took both _ _ _ _ (λ j. gatesClauses B (c .inputs-2 .ensures j) 1 (c .gates .ensures j)) (c .write-gates .ensures .took)))
-        (wrote-as took both _ _ _ _ (λ j. outputClauses B (c .inputs-3 .ensures j) (c .outputs .ensures j) (c .outputs-2 .ensures j)) (c .write-outputs .ensures .took))
+          (wrote-as took both _ _ _ _ (λ j. outputClauses B (c .inputs-3 .ensures j) (c .outputs .ensures j) (c .outputs-2 .ensures j)) (c .write-outputs .ensures .took));
     }

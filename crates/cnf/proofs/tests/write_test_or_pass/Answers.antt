@@ -20,5 +20,5 @@ returns-else-not-pass g c =
     record {
       ready = c .pass .ensures .ready;
       took = c .pass .ensures .passed (c .if-not-pass .left) (integers cs)
-        (integers-length cs ∙ test-length C B t _ _ _ (ap length (c .inputs .ensures)) (c .pre .gates B (C .inputs)) (sym (λ j. length (outputClauses B (C .inputs) (c .outputs .ensures j) (c .outputs-2 .ensures j))) ∙ c .outputs-clause-count .ensures .clauses B (C .inputs)))
+          (integers-length cs ∙ test-length C B t _ _ _ (ap length (c .inputs .ensures)) (c .pre .gates B (C .inputs)) (sym (λ j. length (outputClauses B (C .inputs) (c .outputs .ensures j) (c .outputs-2 .ensures j))) ∙ c .outputs-clause-count .ensures .clauses B (C .inputs)));
     }

@@ -11,5 +11,5 @@ returns c =
     (appended-both _ _ _ _ _ (c .push-5 .ensures)
     (appended-both _ _ _ _ _ (c .push-6 .ensures)
     (appended-both _ _ _ _ _
-      (appended-both _ _ _ _ _ (c .push-decimal .ensures) (appended-both _ _ _ _ _ (c .push-7 .ensures) (c .push-decimal-2 .ensures)))
-      (c .push-8 .ensures)))))))
+    (appended-both _ _ _ _ _ (c .push-decimal .ensures) (appended-both _ _ _ _ _ (c .push-7 .ensures) (c .push-decimal-2 .ensures)))
+    (c .push-8 .ensures)))))))
