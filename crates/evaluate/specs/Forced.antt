@@ -1,6 +1,6 @@
 -- Values forced on gates, and what they stand for in a lane.
---   forcedAt   the value forced on the gate of a number, if there is one: the first in the list
---   inLane     what values stand for in a lane
+--   forcedAt      the value forced on the gate of a number, if there is one: the first in the list
+--   inLane        what values stand for in a lane
 --   laneForcing   what is forced on a gate, in a lane
 use mathlib.Core.Bool.{cond}
 use mathlib.Core.List.{List, [], _∷_, map}

@@ -17,6 +17,7 @@ fn at_number<L: Logic>(values: &[L], number: usize) -> L
     }
 }
 
+// The value of a signal; 0 where there is no such input or gate.
 pub fn value_of<L: Logic>(signal: Signal, inputs: &[L], values: &[L]) -> L
     ensures { λ r. ⌜ ((i : ℕ) → i < L·Logic .lanes → L·Logic .stands r i ≡ standing (inLane (L·Logic .stands) i (now (inputs .entry))) (inLane (L·Logic .stands) i (now (values .entry))) signal) ⌝ }
 {

@@ -1,6 +1,6 @@
 -- Which tests a circuit misses if no gate misbehaves.
---   missed   whether some measured output of a test has another value, while no gate is forced
---   wordOf   the number whose bit i, counted from 0, is bit i of a list
+--   missed               whether some measured output of a test has another value, while no gate is forced
+--   wordOf               the number whose bit i, counted from 0, is bit i of a list
 --   Missed-unexplained   a test is missed exactly if the empty set does not explain it
 use mathlib.Core.Path.{_≡_}
 use mathlib.Core.Bool.{Bool, false, not, cond}

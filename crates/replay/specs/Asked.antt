@@ -1,8 +1,8 @@
 -- What a call on one test of a circuit asks.
---   above      whether numbers ascend, each more than the one before, up to n
---   isSet      whether numbers handed in are a set: at most 8 gates of a circuit with n gates, strictly ascending
---   admits     whether the inputs are those of a test of the circuit, the set is one of its gates, and so many bytes have room
---   answer     no refusal, or refusal 19
+--   above           whether numbers ascend, each more than the one before, up to n
+--   isSet           whether numbers handed in are a set: at most 8 gates of a circuit with n gates, strictly ascending
+--   admits          whether the inputs are those of a test of the circuit, the set is one of its gates, and so many bytes have room
+--   answer          no refusal, or refusal 19
 --   Sets-admitted   what isSet says yes to: just the sets of at most 8 gates
 use mathlib.Core.Path.{_≡_}
 use mathlib.Core.Bool.{Bool, true, cond, _&&_}
