@@ -1,5 +1,5 @@
 -- What an assignment says of one literal more, of clauses in parts, and of two properties at once.
-use mathlib.Core.Bool.{Bool, true, false, _||_, cond}
+use mathlib.Core.Bool.{Bool, true, false, _||_}
 use mathlib.Core.List.{List}
 use mathlib.Core.Logic.{⊎-elim}
 use mathlib.Core.Path.{_≡_, refl, ap, sym, _∙_}
@@ -7,7 +7,7 @@ use Prim.Native.Nat.{ℕ, _+_, _<_, _≤_}
 use native.Mathlib.Omega.{arith}
 use lib.Dec.{eqb, ltb, leb}
 use lib.IntN.{ℤ, pos, natAbs}
-use Rattle.std.proofs.shelf.Tests.{or-left, or-right, or-cases, false≢true, cond-false, ne-eqb, ltb-true, leb-true, and-parts, cases-eq, cases-lt}
+use Rattle.std.proofs.shelf.Tests.{or-left, or-cases, false≢true, cond-false, ne-eqb, ltb-true, leb-true, and-parts, cases-eq, cases-lt}
 use Rattle.solver.specs.Rows.{Row, holds, named}
 use Rattle.assignment.specs.declared.Status.{Status}
 use Rattle.assignment.specs.declared.Status.the-variants.{Satisfied, Conflict, Forced, Open}

@@ -14,9 +14,9 @@ use lib.Signed.{ltZ}
 use denote.Ref.{now}
 use Rattle.solver.specs.Rows.{Row, holds}
 use Rattle.ternary.specs.declared.TernarySearch.{TernarySearch}
-use Rattle.assignment.specs.Stored.{Ranged, Wanted}
-use Rattle.assignment.specs.Assignment.{val, row-of, Extends, Free}
-use Rattle.assignment.specs.Trail.{Recorded, Before, Blocked, Closed, No-open, is-open, digit, weight}
+use Rattle.assignment.specs.Stored.{Wanted}
+use Rattle.assignment.specs.Assignment.{row-of, Extends, Free}
+use Rattle.assignment.specs.Trail.{Recorded, Before, Blocked, Closed, No-open, digit, weight}
 use Rattle.ternary.specs.Stands.{Sound, stands}
 use Rattle.ternary.specs.Search.{Same, Sought, Backtracked, Turn, values-of, trail-of, decisions-of}
 use Rattle.assignment.proofs.Recorded.{recorded-none, recorded-room, recorded-assign, extends}

@@ -1,7 +1,7 @@
 // Lists of the clauses that name a variable. They are hints: each step checks the clause that they lead to.
 ghost use mathlib.Core.Path.{_≡_};
-ghost use Prim.Native.Nat.{ℕ, _+_, _-_, _*_, _<_, _≤_};
-ghost use lib.ListN.{length, getD, set};
+ghost use Prim.Native.Nat.{_+_, _-_, _*_, _<_, _≤_};
+ghost use lib.ListN.{length};
 ghost use mathlib.Core.Bool.{true};
 ghost use Rattle.solver.specs.Rows.{all-named};
 ghost use Rattle.assignment.specs.Stored.{Ranged, Stored-true};

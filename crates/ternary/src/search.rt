@@ -1,9 +1,7 @@
 // The search itself.
 ghost use mathlib.Core.Path.{_≡_};
 ghost use mathlib.Core.Bool.{true};
-ghost use Prim.Native.Nat.{ℕ, _+_, _-_, _*_, _<_, _≤_};
-ghost use lib.ListN.{length, getD, set};
-ghost use lib.IntN.{pos, natAbs};
+ghost use Prim.Native.Nat.{_+_};
 ghost use Rattle.std.specs.Orderings.{When};
 ghost use Rattle.solver.specs.Rows.{Row, all-named};
 ghost use Rattle.assignment.specs.Assignment.{row-of};

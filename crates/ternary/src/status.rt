@@ -1,11 +1,11 @@
 // What a search finds when it looks at literals and clauses under the values so far.
 ghost use mathlib.Core.Path.{_≡_};
 ghost use mathlib.Core.Bool.{Bool, true, _||_};
-ghost use Prim.Native.Nat.{ℕ, _+_, _-_, _*_, _<_, _≤_};
-ghost use lib.ListN.{length, getD, set};
-ghost use lib.IntN.{pos, natAbs};
+ghost use Prim.Native.Nat.{_+_, _-_, _*_, _≤_};
+ghost use lib.ListN.{length};
+ghost use lib.IntN.{natAbs};
 ghost use Rattle.solver.specs.Rows.{Row, all-true, all-named};
-ghost use Rattle.assignment.specs.Stored.{place-true, triple-true, Stored-true, Between, Ranged, Wanted};
+ghost use Rattle.assignment.specs.Stored.{place-true, triple-true, Stored-true, Between, Ranged};
 ghost use Rattle.assignment.specs.Statuses.{Valued, Tells, first-finding};
 ghost use Rattle.ternary.specs.Stands.{Sound};
 ghost use Rattle.ternary.specs.Search.{Sought, values-of};

@@ -1,12 +1,11 @@
 // The trail of a search.
 ghost use mathlib.Core.Path.{_≡_};
 ghost use mathlib.Core.Bool.{true};
-ghost use Prim.Native.Nat.{ℕ, _+_, _-_, _*_, _<_, _≤_};
+ghost use Prim.Native.Nat.{ℕ, _-_, _<_, _≤_};
 ghost use lib.ListN.{length, getD, set};
 ghost use lib.IntN.{pos, natAbs, negℤ};
 ghost use Rattle.std.specs.Options.{Cases as BySome};
-ghost use Rattle.assignment.specs.Trail.{Recorded, No-open, is-open};
-ghost use Rattle.ternary.specs.Stands.{Sound};
+ghost use Rattle.assignment.specs.Trail.{Recorded, No-open};
 ghost use Rattle.ternary.specs.Search.{Same, Backtracked, values-of, trail-of, decisions-of};
 use super::TernarySearch;
 

@@ -2,17 +2,16 @@
 use borrow.Author.Needs.{needs}
 use mathlib.Core.Bool.{true, false}
 use mathlib.Core.Logic.{⊎-elim}
-use mathlib.Core.Path.{_≡_, refl, ap, sym, _∙_}
-use Prim.Native.Nat.{ℕ, _+_, _-_, _<_, _≤_}
+use mathlib.Core.Path.{_≡_, ap, sym, _∙_}
+use Prim.Native.Nat.{_-_}
 use native.Mathlib.Omega.{arith}
-use lib.ListN.{getD, set, length, length-set}
-use lib.IntN.{ℤ, pos, natAbs}
+use lib.ListN.{getD, length-set}
+use lib.IntN.{pos, natAbs}
 use lib.Signed.{ltZ}
 use mir.Syntax.{w32}
-use mir.Val.{SFits, toZ, ofZ}
+use mir.Val.{SFits}
 use Rattle.std.proofs.shelf.Signed.{toZ-ofZ}
 use Rattle.std.proofs.shelf.Tests.{cases-eq}
-use Rattle.ternary.specs.Search.{Same}
 use Rattle.assignment.specs.Trail.{is-open}
 use Rattle.assignment.proofs.Recorded.{pop-at, pop-free}
 use Rattle.ternary.proofs.TernarySearch.backtrack.Needs as need

@@ -1,6 +1,5 @@
 -- One place more is on a list, or holds no literal.
-use borrow.Author.Needs.{needs}
-use mathlib.Core.Path.{_≡_, ap, sym, subst, _∙_}
+use mathlib.Core.Path.{sym, subst}
 use Prim.Native.Nat.{_+_, _*_, _≤_}
 use lib.ListN.{length, length-set}
 use denote.Ref.{now}

@@ -6,7 +6,7 @@ use mir.Val.{SFits}
 use Rattle.std.proofs.shelf.Signed.{toZ-ofZ}
 use Rattle.assignment.specs.declared.Status.the-variants.{Forced}
 use Rattle.ternary.specs.Search.{Sought}
-use mathlib.Core.Path.{_≡_, sym, subst}
+use mathlib.Core.Path.{sym, subst}
 use Rattle.assignment.specs.declared.Status.{Status}
 use Rattle.assignment.specs.Stored.{Stored-true}
 use Rattle.assignment.specs.Statuses.{Hinted, Tells}

@@ -1,17 +1,16 @@
 -- The first turn, what each turn does with what it found, and why the search ends.
 use borrow.Author.Needs.{needs}
 use mathlib.Core.Bool.{true, false}
-use mathlib.Core.Path.{_≡_, refl, ap, sym, subst, _∙_}
-use Prim.Native.Nat.{ℕ, _+_, _-_, _<_, _≤_}
-use native.Mathlib.Omega.{arith}
-use lib.IntN.{ℤ, pos, natAbs, negℤ}
-use lib.ListN.{getD, set, length}
+use mathlib.Core.Path.{_≡_, ap, subst, _∙_}
+use Prim.Native.Nat.{ℕ}
+use lib.IntN.{pos, negℤ}
+use lib.ListN.{getD, length}
 use mir.Syntax.{w32}
 use mir.Val.{SFits, toZ, ofZ}
 use Rattle.std.proofs.shelf.Signed.{toZ-ofZ}
 use Rattle.std.proofs.shelf.Tests.{true≢false}
 use Rattle.solver.specs.Rows.{all-named}
-use Rattle.assignment.specs.Assignment.{Free, row-of}
+use Rattle.assignment.specs.Assignment.{row-of}
 use Rattle.assignment.specs.Statuses.{Tells}
 use Rattle.assignment.specs.declared.Status.{Status}
 use Rattle.ternary.specs.Search.{Same, Sought, decisions-of, trail-of, values-of}

@@ -1,16 +1,15 @@
 -- One assumed literal more is true, or it is a conflict or forced.
 use borrow.Author.Needs.{needs}
-use mathlib.Core.Bool.{Bool, true, false}
-use mathlib.Core.Path.{_≡_, sym, ap, subst, _∙_}
-use Prim.Native.Nat.{_≤_}
+use mathlib.Core.Bool.{true, false}
+use mathlib.Core.Path.{_≡_, sym, subst, _∙_}
 use lib.ListN.{getD, length}
-use lib.IntN.{ℤ, pos, natAbs}
+use lib.IntN.{ℤ, pos}
 use lib.Seq.{take-all}
 use mir.Syntax.{w32}
 use mir.Val.{SFits}
 use Rattle.std.proofs.shelf.Signed.{toZ-ofZ}
 use Rattle.std.proofs.shelf.Tests.{false≢true}
-use Rattle.solver.specs.Rows.{Row, named, holds, all-true}
+use Rattle.solver.specs.Rows.{named, holds, all-true}
 use Rattle.solver.proofs.Lists.{all-more, all-at}
 use Rattle.assignment.specs.Assignment.{row-of, Free}
 use Rattle.assignment.specs.Statuses.{Tells}

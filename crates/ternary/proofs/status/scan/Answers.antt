@@ -1,5 +1,5 @@
 -- The clauses behind the hint, and then those before it.
-use mathlib.Core.Path.{_≡_, ap, sym, subst}
+use mathlib.Core.Path.{sym, subst}
 use Prim.Native.Nat.{_≤_}
 use native.Mathlib.Omega.{arith}
 use Rattle.assignment.specs.declared.Finding.{Finding}

@@ -1,6 +1,6 @@
 -- One clause more is satisfied or has an open literal, or it ends the scan.
 use borrow.Author.Needs.{needs}
-use mathlib.Core.Path.{_≡_, ap, sym, subst, _∙_}
+use mathlib.Core.Path.{ap, sym, subst, _∙_}
 use Prim.Native.Nat.{_+_, _*_}
 use lib.ListN.{getD}
 use lib.IntN.{ℤ, pos}

@@ -1,13 +1,12 @@
 -- What the search found answers the question, and the clauses stay.
 use mathlib.Core.List.{List}
-use mathlib.Core.Path.{_≡_, refl, ap, sym, subst, _∙_}
+use mathlib.Core.Path.{ap, sym, subst}
 use Prim.Native.Nat.{ℕ}
 use lib.IntN.{ℤ}
 use Rattle.solver.specs.Meaning.{Sizes}
 use Rattle.solver.proofs.Refusals.{solve-accepted}
 use Rattle.assignment.specs.Stored.{Stored-true}
 use Rattle.ternary.specs.Stands.{stands}
-use Rattle.ternary.specs.Search.{values-of}
 use Rattle.ternary.proofs.Turns.{answered}
 use Rattle.ternary.proofs.calls.TernarySearchSolver.solve.Needs as need
 
