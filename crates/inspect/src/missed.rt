@@ -41,7 +41,10 @@ fn describe_misses(
     let mut bits = [2u8; 64];
     let _ = settled(circuit, test.inputs(), &[], &mut bits);
     print!(rt, "missed {number} at")?;
-    for (signal, (bit, reading)) in circuit.outputs().iter().zip(bits.iter().zip(test.outputs().iter())) {
+    for (signal, (bit, reading)) in circuit
+        .outputs()
+        .iter()
+        .zip(bits.iter().zip(test.outputs().iter())) {
         if !agrees(*bit, *reading) {
             print_name(rt, netlist, *signal)?;
         }
@@ -49,7 +52,12 @@ fn describe_misses(
     println!(rt, "")
 }
 
-pub fn describe_missed(rt: &LibcRuntime, netlist: &Netlist, circuit: &Circuit, tests: &TestTable) -> io::Result<()> {
+pub fn describe_missed(
+    rt: &LibcRuntime,
+    netlist: &Netlist,
+    circuit: &Circuit,
+    tests: &TestTable,
+) -> io::Result<()> {
     let word = failing(circuit, tests);
     for (number, test) in tests.tests().iter().enumerate() {
         if number < 32 && (word >> (number as u32)) & 1 == 1 {
