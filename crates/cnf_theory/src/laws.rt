@@ -1,5 +1,4 @@
 // The laws of the formula.
-ghost use Rattle.cnf_theory.specs.Dimacs.{Inverter-lines};
 ghost use Rattle.cnf_theory.specs.FormulaLaws.{Says-explains, Counts-to, Within-variables, Nine-at-most};
 
 pub fn formula_says_explains()
@@ -16,8 +15,4 @@ pub fn literals_name_variables()
 
 pub fn clauses_have_nine_at_most()
     ensures { λ _. ⌜ Nine-at-most ⌝ }
-{}
-
-pub fn inverter_lines_are_as_written()
-    ensures { λ _. ⌜ Inverter-lines ⌝ }
 {}

@@ -5,5 +5,4 @@ mod laws;
 pub use laws::clauses_have_nine_at_most;
 pub use laws::counter_literal_bounds_marks;
 pub use laws::formula_says_explains;
-pub use laws::inverter_lines_are_as_written;
 pub use laws::literals_name_variables;
