@@ -14,7 +14,7 @@ use crate::literal::Literal;
 use crate::sink::ClauseSink;
 
 // The count k at the gate after `before` others.
-pub fn count_variable(gates: usize, bound: usize, before: usize, k: usize) -> usize
+fn count_variable(gates: usize, bound: usize, before: usize, k: usize) -> usize
     requires { ⌜ gates ≤ 256 ⌝ ∗ ⌜ bound ≤ 6 ⌝ ∗ ⌜ before < gates ⌝ ∗ ⌜ 1 ≤ k ⌝ ∗ ⌜ k ≤ bound + 1 ⌝ }
     ensures value { λ r. ⌜ r ≡ countVariable gates bound (suc before) k ⌝ }
     ensures small { λ r. ⌜ Small r ⌝ }

@@ -11,7 +11,6 @@ mod tally;
 mod tests;
 
 pub use bound::Bound;
-pub use counter::count_variable;
 pub use formula::formula_sizes;
 pub use formula::variable_count;
 pub use formula::write_formula;
