@@ -1,4 +1,5 @@
 // Partial assignments: the value of a literal, and what an assignment says of clauses. The proofs on trails and stored clauses stand here too.
+#![tactic(auto)]
 
 // The value of a literal under a partial assignment.
 #[derive(Clone, Copy)]

@@ -1,5 +1,7 @@
 // Candidates for the next set of a list, and the rows of a solver that stand for them.
 // Every function here does nothing: its contract is a law of the definitions, and the check asks for its proof.
+#![tactic(auto)]
+
 mod laws;
 
 pub use laws::{

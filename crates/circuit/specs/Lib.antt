@@ -5,3 +5,4 @@ pub mod KindLaws
 pub mod Circuits
 pub mod Held
 pub mod Tests
+pub mod SignalEq

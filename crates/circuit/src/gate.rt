@@ -1,7 +1,7 @@
 // Signals, and gates with their operands.
 ghost use Rattle.std.specs.Prelude.{◌≡◌, Decides};
-ghost use Rattle.std.specs.Cmp.Rules.{comparing};
-ghost use Rattle.std.proofs.Common.{rules};
+ghost use Rattle.std.specs.Cmp.{decided, partial_equiv_from_equiv};
+ghost use Rattle.circuit.specs.SignalEq.{signal_eq, signal_eq_decides};
 
 use crate::kind::Kind;
 use crate::operands::Operands;
@@ -15,11 +15,14 @@ pub enum Signal {
 
 // Written out, so that `==` says when two signals are the same.
 impl PartialEq for Signal {
-    ghost equals = { λ a b t. Decides t (a ≡ b) };
+    ghost eq = { signal_eq };
 
-    ghost laws = { Prim.search (comparing, rules) };
+    ghost laws = { partial_equiv_from_equiv (decided signal_eq signal_eq_decides) };
 
-    fn eq(&self, other: &Signal) -> bool {
+    fn eq(&self, other: &Signal) -> bool
+        ensures value { result ≡ signal_eq self.now other.now }
+        ensures same { Decides result (self.now ≡ other.now) }
+    {
         match (*self, *other) {
             (Signal::Input(i), Signal::Input(j)) => i == j,
             (Signal::Gate(g), Signal::Gate(h)) => g == h,

@@ -1,4 +1,6 @@
 // Circuits: kinds of gates, signals, gates with their operands, and circuits that are sound by their type.
+#![tactic(auto)]
+
 mod build;
 mod circuit;
 mod collect;

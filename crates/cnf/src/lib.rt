@@ -1,4 +1,6 @@
 // The clause writer: it walks a circuit, its tests and a bound once, and hands the formula's clauses, in order, to whatever takes them.
+#![tactic(auto)]
+
 mod bound;
 mod clause;
 mod counter;

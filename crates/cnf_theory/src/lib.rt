@@ -1,5 +1,7 @@
 // The formula for a circuit, its tests and a bound: clauses whose rows are the sets of gates that explain, and what each promise about them rests on.
 // Every function here does nothing: its contract is a law of the definitions, and the check asks for its proof.
+#![tactic(auto)]
+
 mod laws;
 
 pub use laws::{

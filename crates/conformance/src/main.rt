@@ -1,4 +1,6 @@
 // Plays fixed pseudo-random calls to each solver, and compares every answer with that of a truth table.
+#![tactic(auto)]
+
 mod model;
 mod play;
 mod script;

@@ -1,5 +1,7 @@
 // Diagnosis: which sets of gates explain what was measured, and the full list of the minimal ones.
 // Every function here does nothing: its contract is a law of the definitions, and the check asks for its proof.
+#![tactic(auto)]
+
 mod explaining;
 mod listing;
 mod next;

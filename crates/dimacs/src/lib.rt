@@ -1,4 +1,6 @@
 // The formula's text in DIMACS form, line by line, without writing the lines before.
+#![tactic(auto)]
+
 mod digits;
 mod line;
 mod pick;

@@ -1,4 +1,6 @@
 // One evaluator for every kind of signal value.
+#![tactic(auto)]
+
 mod combine;
 mod connective;
 mod count;

@@ -1,5 +1,7 @@
 // Evaluation of circuits whose signals stand for one bit or for both.
 // Every function here does nothing: its contract is a law of the definitions, and the check asks for its proof.
+#![tactic(auto)]
+
 ghost use Rattle.evaluation.specs.EvaluationLaws.{GateLaw, EvaluationCovers, EvaluationOfBits};
 
 pub fn gates_follow_the_law()

@@ -1,5 +1,7 @@
 // Compares the word with the bit: 32 tests of a circuit of 256 gates, in one walk with the word and in 32 walks with the bit.
 // By itself the program says whether both find the same; with any argument it measures and prints how long a test takes.
+#![tactic(auto)]
+
 mod network;
 mod patterns;
 

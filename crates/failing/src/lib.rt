@@ -1,4 +1,6 @@
 // The tests that a circuit misses if no gate misbehaves: all tests in one walk over the gates.
+#![tactic(auto)]
+
 mod agree;
 mod columns;
 mod laws;

@@ -1,5 +1,7 @@
 // Writes every line of the formula of a full-size case: 64 inputs, 256 gates of eight operands, 32 tests and the bound 6.
 // Tells how many lines and bytes they are, and on the error stream what a line costs early and late in the text.
+#![tactic(auto)]
+
 ghost use Rattle.std.specs.Prelude.{◌≤◌};
 
 use circuit::{Circuit, Gate, Kind, Operands, Signal};

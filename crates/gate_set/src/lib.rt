@@ -1,4 +1,6 @@
 // Sets of gates, by their numbers in ascending order.
+#![tactic(auto)]
+
 mod ascending;
 mod gate_set;
 mod laws;

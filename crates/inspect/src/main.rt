@@ -1,4 +1,6 @@
 // Describes the netlist in `case.net` and the tests in `case.tst`, or says what is wrong with them and where.
+#![tactic(auto)]
+
 mod describe;
 mod log;
 mod missed;

@@ -1,4 +1,6 @@
 // The next set of a list, over any solver: the first set of at most so many gates that explains every test and contains no set given before.
+#![tactic(auto)]
+
 mod ask;
 mod asked;
 mod bars;

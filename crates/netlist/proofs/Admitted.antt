@@ -22,11 +22,11 @@ module _ (d : Draft) (n : Name) where
   output_asked line b e = ap (λ (so : Bool). ask 8 so (Ok (output_added d line n))) e
 
   module _ (k : Kind) (ns : List Name) where
-    pub gate-miscounted : takes k (length ns) ≡ false → admitted d 0 (gate n k ns) ≡ Err 5
-    gate-miscounted e = no 5 (takes k (length ns)) _ e
+    pub gate_miscounted : takes k (length ns) ≡ false → admitted d 0 (gate n k ns) ≡ Err 5
+    gate_miscounted e = no 5 (takes k (length ns)) _ e
 
-    pub gate-redefined : takes k (length ns) ≡ true → is_some (signal d.netlist n) ≡ true → admitted d 0 (gate n k ns) ≡ Err 6
-    gate-redefined e f = yes 5 (takes k (length ns)) _ e ∙ no 6 (new d n) _ (ap not f)
+    pub gate_redefined : takes k (length ns) ≡ true → is_some (signal d.netlist n) ≡ true → admitted d 0 (gate n k ns) ≡ Err 6
+    gate_redefined e f = yes 5 (takes k (length ns)) _ e ∙ no 6 (new d n) _ (ap not f)
 
-    pub gate-asked : (o : Option (List Signal)) → takes k (length ns) ≡ true → is_some (signal d.netlist n) ≡ false → signals d.netlist ns ≡ o → admitted d 0 (gate n k ns) ≡ connected d n k o
-    gate-asked o e f s = yes 5 (takes k (length ns)) _ e ∙ yes 6 (new d n) _ (ap not f) ∙ ap (connected d n k) s
+    pub gate_asked : (o : Option (List Signal)) → takes k (length ns) ≡ true → is_some (signal d.netlist n) ≡ false → signals d.netlist ns ≡ o → admitted d 0 (gate n k ns) ≡ connected d n k o
+    gate_asked o e f s = yes 5 (takes k (length ns)) _ e ∙ yes 6 (new d n) _ (ap not f) ∙ ap (connected d n k) s

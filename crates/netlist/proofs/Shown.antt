@@ -4,10 +4,11 @@ use Rattle.std.specs.List.{IsAnyAnswer}
 use Rattle.std.proofs.lemmas.List.Elements.{contains_decides}
 use Rattle.std.proofs.lemmas.List.{at_drop_more, at_drop_all, length-map}
 use Rattle.std.proofs.lemmas.Bool.{cond-true, cond-false, eq-eqb, ne_eqb, eqb-true, and_from, lt-ltb}
-use Rattle.std.proofs.lemmas.Bool.Decides.{same_from_decides, Decides-by_or, Decides-eqb}
+use Rattle.std.proofs.lemmas.Bool.Decides.{same_from_decides, Decides-by_or}
 use Rattle.refusal.specs.declared.Refusal.{Refusal}
 use Rattle.circuit.specs.declared.gate.Signal.{Signal}
 use Rattle.circuit.specs.declared.gate.Signal.TheVariants.{Input, Gate}
+use Rattle.circuit.specs.SignalEq.{signal_eq, signal_eq_decides}
 use Rattle.circuit.specs.Lists.{any}
 use Rattle.circuit.specs.Circuits.{there}
 use Rattle.circuit.specs.Held.{circuit_of, admits_output}
@@ -27,8 +28,8 @@ same_signal_decides (Gate g) (Input j) = (λ e. absurd (grind arith), λ q. absu
 same_signal_decides (Gate g) (Gate h) = (λ e. ap (λ (k : ℕ). Gate k) (sym (eqb-true g h e)), λ q. eq-eqb g h (let r : h ≡ g = cc in sym r))
 
 -- what `contains` says of a signal
-pub contains_any : (ss : List Signal) (s : Signal) (r : Bool) → IsAnyAnswer (λ y t. Decides t (y ≡ s)) ss r → r ≡ any (same_signal s) ss
-contains_any ss s r h = same_from_decides r (any (same_signal s) ss) (contains_decides eqb Decides-eqb ss s r h) (Decides-by_or (same_signal s) (λ y. y ≡ s) (any (same_signal s)) (same_signal_decides s) refl (λ _ _. refl) ss)
+pub contains_any : (ss : List Signal) (s : Signal) (r : Bool) → IsAnyAnswer (λ y t. signal_eq y s ≡ t) ss r → r ≡ any (same_signal s) ss
+contains_any ss s r h = same_from_decides r (any (same_signal s) ss) (contains_decides signal_eq signal_eq_decides ss s r h) (Decides-by_or (same_signal s) (λ y. y ≡ s) (any (same_signal s)) (same_signal_decides s) refl (λ _ _. refl) ss)
 
 -- ── one output more ──
 pub shown_again : (n : Netlist) (line : ℕ) (s : Signal) → shows n s ≡ true → shown n line (Some s) ≡ Err (refusal 10 line 0)

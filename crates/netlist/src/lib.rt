@@ -1,4 +1,6 @@
 // Netlists, read from their text into tables that have room for the largest.
+#![tactic(auto)]
+
 mod admit;
 mod fault;
 mod lines;

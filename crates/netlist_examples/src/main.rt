@@ -1,4 +1,6 @@
 // Netlist texts, good and bad, corner by corner: one line for each, with what loading it answers.
+#![tactic(auto)]
+
 use anyhow::anyhow;
 use large::{at_limits, long_text};
 use netlist::Netlist;

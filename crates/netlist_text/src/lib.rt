@@ -1,4 +1,6 @@
 // What a netlist text means, and the laws of that meaning. The definitions are in specs/, and each law stands on a function here.
+#![tactic(auto)]
+
 ghost use Rattle.netlist_text.specs.Law.{TakenIsSound};
 ghost use Rattle.netlist_text.specs.Written.{ReadsBack};
 

@@ -1,4 +1,6 @@
 // Tries records, logs and amendments, good and bad, and prints what becomes of each.
+#![tactic(auto)]
+
 mod bench;
 mod hex;
 mod shown;

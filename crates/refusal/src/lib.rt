@@ -1,4 +1,6 @@
 // What a refused call tells: the number of the first question that said no, and where in a text it did.
+#![tactic(auto)]
+
 use std::fmt;
 
 // Line and column count from 1, and are 0 where the question has none.

@@ -1,4 +1,6 @@
 // Questions about one test of a circuit: its gates' bits with values forced on a set, and what is settled while a set is unknown.
+#![tactic(auto)]
+
 mod asked;
 mod forcing;
 mod laws;

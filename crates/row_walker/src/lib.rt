@@ -1,4 +1,6 @@
 // A solver that counts through the rows: slow, short, and of another make than a search.
+#![tactic(auto)]
+
 ghost use Rattle.std.specs.Prelude.{◌≡◌, ◌+◌, ◌≤◌, true, length, take};
 ghost use Rattle.solver.specs.Lists.{all};
 ghost use Rattle.row_walker.specs.Masks.{within};

@@ -1,4 +1,6 @@
 // How a client uses a solver, proved over every solver: clauses go in, a question is asked, and the row shown is read.
+#![tactic(auto)]
+
 ghost use Rattle.std.specs.Prelude.{◌≡◌, ◌+◌, ◌^◌, ◌<◌, true, IfOk, MatchResult};
 ghost use Rattle.solver.specs.Refusals.{refusal};
 ghost use Rattle.satisfy.specs.Clauses.{Narrowed, Partly, adds_refusal};
@@ -8,10 +10,10 @@ use solver::{Solver, SolverFault};
 
 // Adds clauses in their order, up to the first that is refused.
 pub fn add_all<S: Solver>(solver: &mut S, clauses: &[&[i32]]) -> Result<(), SolverFault>
-    requires { sound solver.old }
-    ensures refused { refusal result ≡ adds_refusal (meaning solver.old).sizes (meaning solver.old).vars (meaning solver.old).room clauses.now }
-    ensures cases { MatchResult result (λ _. Narrowed (meaning solver.old) clauses.now (meaning solver.new)) (λ _. Partly (meaning solver.old) clauses.now (meaning solver.new)) }
-    ensures sound { sound solver.new }
+    requires { S.sound solver.old }
+    ensures refused { refusal result ≡ adds_refusal (S.meaning solver.old).sizes (S.meaning solver.old).vars (S.meaning solver.old).room clauses.now }
+    ensures cases { MatchResult result (λ _. Narrowed (S.meaning solver.old) clauses.now (S.meaning solver.new)) (λ _. Partly (S.meaning solver.old) clauses.now (S.meaning solver.new)) }
+    ensures sound { S.sound solver.new }
 {
     for clause in clauses {
         solver.add(clause)?;
@@ -21,9 +23,9 @@ pub fn add_all<S: Solver>(solver: &mut S, clauses: &[&[i32]]) -> Result<(), Solv
 
 // The value of variable i + 1, or what was there.
 fn value_or<S: Solver>(solver: &S, i: usize, old: bool) -> bool
-    requires sound { sound solver.now }
+    requires sound { S.sound solver.now }
     requires fits { i + 1 < 2 ^ 64 }
-    ensures { result ≡ read_at (meaning solver.now).vars (meaning solver.now).shown i old }
+    ensures { result ≡ read_at (S.meaning solver.now).vars (S.meaning solver.now).shown i old }
 {
     match solver.value(i + 1) {
         Ok(value) => value,
@@ -33,8 +35,8 @@ fn value_or<S: Solver>(solver: &S, i: usize, old: bool) -> bool
 
 // Reads the row shown: place i gets the value of variable i + 1.
 pub fn read_row<S: Solver>(solver: &S, row: &mut [bool])
-    requires { sound solver.now }
-    ensures { Read (meaning solver.now).vars (meaning solver.now).shown row.old row.new }
+    requires { S.sound solver.now }
+    ensures { Read (S.meaning solver.now).vars (S.meaning solver.now).shown row.old row.new }
 {
     for i in 0..row.len() {
         row[i] = value_or(solver, i, row[i]);
@@ -49,10 +51,10 @@ pub fn satisfy<S: Solver>(
     assumed: &[i32],
     row: &mut [bool],
 ) -> Result<bool, SolverFault>
-    requires { sound solver.old }
-    ensures refused { refusal result ≡ satisfy_refusal (meaning solver.old).sizes vars clauses.now assumed.now }
+    requires { S.sound solver.old }
+    ensures refused { refusal result ≡ satisfy_refusal (S.meaning solver.old).sizes vars clauses.now assumed.now }
     ensures cases { MatchResult result (λ answer. Satisfied vars clauses.now assumed.now row.old answer row.new) (λ _. row.new ≡ row.old) }
-    ensures sound { sound solver.new }
+    ensures sound { S.sound solver.new }
 {
     solver.begin(vars)?;
     add_all(solver, clauses)?;

@@ -1,4 +1,6 @@
 // The words and signs of a netlist's lines, and the statements that they form.
+#![tactic(auto)]
+
 mod bytes;
 mod name;
 mod naming;

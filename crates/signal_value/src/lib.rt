@@ -1,4 +1,6 @@
 // Kinds of signal values: the trait that an evaluator asks for, and the bit, the word of 32 lanes and the doubtful value.
+#![tactic(auto)]
+
 mod bit;
 mod doubtful;
 mod laws;

@@ -1,4 +1,6 @@
 // The solver interface: what a solver stands for, what each call does to that, and when a call is refused.
+#![tactic(auto)]
+
 mod fault;
 mod interface;
 mod questions;

@@ -1,4 +1,6 @@
 // A solver over any solver: it takes longer clauses, and hands them on in threes.
+#![tactic(auto)]
+
 mod account;
 mod below;
 mod calls;

@@ -58,14 +58,14 @@ module _ (s₀ : TernarySearch) (a : List ℤ) where
   }
 
   module _ (s : TernarySearch) (len : ℕ) (turn : Turn s₀ s a len) where
-    pub room-trail : (x : ℤ) → Free (values_of s) x → len < length (trail_of s)
-    room-trail x f = let r = recorded_room (values_of s) (trail_of s) len x turn.recorded f in omega (arith, r, turn.sound.trail_len, turn.sound.values_len)
+    pub room_trail : (x : ℤ) → Free (values_of s) x → len < length (trail_of s)
+    room_trail x f = let r = recorded_room (values_of s) (trail_of s) len x turn.recorded f in omega (arith, r, turn.sound.trail_len, turn.sound.values_len)
 
-    pub room-decisions : (x : ℤ) → Free (values_of s) x → len < length (decisions_of s)
-    room-decisions x f = let r = recorded_room (values_of s) (trail_of s) len x turn.recorded f in omega (arith, r, turn.sound.decisions_len, turn.sound.values_len)
+    pub room_decisions : (x : ℤ) → Free (values_of s) x → len < length (decisions_of s)
+    room_decisions x f = let r = recorded_room (values_of s) (trail_of s) len x turn.recorded f in omega (arith, r, turn.sound.decisions_len, turn.sound.values_len)
 
-    pub turn-within : len ≤ s.limit
-    turn-within = let z = turn.recorded.count in omega (arith, z, turn.sound.values_len)
+    pub turn_within : len ≤ s.limit
+    turn_within = let z = turn.recorded.count in omega (arith, z, turn.sound.values_len)
 
     -- what the values force, the trail forces
     pub forced : (x : ℤ) → ((row : Row) → Extends row (values_of s) → Sought s a row → holds row x ≡ true) → (row : Row) → Sought s₀ a row → Before (trail_of s) len row → holds row x ≡ true
@@ -75,29 +75,29 @@ module _ (s₀ : TernarySearch) (a : List ℤ) where
     blocked f row w b = f row (extends (values_of s) (trail_of s) len row turn.recorded b) (sought_same s₀ s a turn.same row w)
 
     -- one entry more
-    pub turn-assign : (t : TernarySearch) (x o : ℤ) → Free (values_of s) x → (lt_z (pos 0) o ≡ false → (row : Row) → Sought s₀ a row → Before (trail_of s) len row → holds row x ≡ true) → Same s t → values_of t ≡ set (values_of s) (nat_abs x - 1) x → trail_of t ≡ set (trail_of s) len x → decisions_of t ≡ set (decisions_of s) len o → Turn s₀ t a (len + 1)
-    turn-assign t x o f new e ev el em = record {
+    pub turn_assign : (t : TernarySearch) (x o : ℤ) → Free (values_of s) x → (lt_z (pos 0) o ≡ false → (row : Row) → Sought s₀ a row → Before (trail_of s) len row → holds row x ≡ true) → Same s t → values_of t ≡ set (values_of s) (nat_abs x - 1) x → trail_of t ≡ set (trail_of s) len x → decisions_of t ≡ set (decisions_of s) len o → Turn s₀ t a (len + 1)
+    turn_assign t x o f new e ev el em = record {
       sound = sound_same s t turn.sound e (ap length ev ∙ length-set (values_of s) (nat_abs x - 1) x) (ap length el ∙ length-set (trail_of s) len x) (ap length em ∙ length-set (decisions_of s) len o);
       same = same_trans s₀ s t turn.same e;
-      recorded = subst (λ (ts : List ℤ). Recorded (values_of t) ts (len + 1)) (sym el) (subst (λ (vs : List ℤ). Recorded vs (set (trail_of s) len x) (len + 1)) (sym ev) (recorded_assign (values_of s) (trail_of s) len x turn.recorded f (room-trail x f)));
-      closed = subst (λ (ts : List ℤ). Closed (Sought s₀ a) ts (decisions_of t) (len + 1)) (sym el) (subst (λ (os : List ℤ). Closed (Sought s₀ a) (set (trail_of s) len x) os (len + 1)) (sym em) (closed_assign (Sought s₀ a) (trail_of s) (decisions_of s) len x o (room-trail x f) (room-decisions x f) new turn.closed));
+      recorded = subst (λ (ts : List ℤ). Recorded (values_of t) ts (len + 1)) (sym el) (subst (λ (vs : List ℤ). Recorded vs (set (trail_of s) len x) (len + 1)) (sym ev) (recorded_assign (values_of s) (trail_of s) len x turn.recorded f (room_trail x f)));
+      closed = subst (λ (ts : List ℤ). Closed (Sought s₀ a) ts (decisions_of t) (len + 1)) (sym el) (subst (λ (os : List ℤ). Closed (Sought s₀ a) (set (trail_of s) len x) os (len + 1)) (sym em) (closed_assign (Sought s₀ a) (trail_of s) (decisions_of s) len x o (room_trail x f) (room_decisions x f) new turn.closed));
     }
 
-    pub turn-assign-less : (os : List ℤ) (x o : ℤ) → Free (values_of s) x → os ≡ set (decisions_of s) len o → weight (digit os (len + 1)) s₀.limit < weight (digit (decisions_of s) len) s₀.limit
-    turn-assign-less os x o f em =
-        let r = room-decisions x f in
+    pub turn_assign_less : (os : List ℤ) (x o : ℤ) → Free (values_of s) x → os ≡ set (decisions_of s) len o → weight (digit os (len + 1)) s₀.limit < weight (digit (decisions_of s) len) s₀.limit
+    turn_assign_less os x o f em =
+        let r = room_decisions x f in
         let c = turn.same.limit in
         let n = turn.sound.decisions_len in
         subst (λ (ks : List ℤ). weight (digit ks (len + 1)) s₀.limit < weight (digit (decisions_of s) len) s₀.limit) (sym em) (assign_less (decisions_of s) len o s₀.limit r (omega (arith, r, c, n)))
 
     -- all entries closed, and none of the rows sought agrees
-    pub turn-none : ((row : Row) → Extends row (values_of s) → Sought s a row → ⊥) → NoOpen (decisions_of s) 0 len → (row : Row) → Sought s₀ a row → ⊥
-    turn-none f no_open row w = walked_to (Sought s₀ a) (trail_of s) (decisions_of s) 0 len (omega arith) turn.closed no_open (blocked f) row w (λ j l. absurd (not-suc-le-zero l))
+    pub turn_none : ((row : Row) → Extends row (values_of s) → Sought s a row → ⊥) → NoOpen (decisions_of s) 0 len → (row : Row) → Sought s₀ a row → ⊥
+    turn_none f no_open row w = walked_to (Sought s₀ a) (trail_of s) (decisions_of s) 0 len (omega arith) turn.closed no_open (blocked f) row w (λ j l. absurd (not-suc-le-zero l))
 
     module _ (u : TernarySearch) (p : ℕ) (e : Same s u) (ev : length (values_of u) ≡ length (values_of s)) (el : trail_of u ≡ trail_of s) (em : decisions_of u ≡ decisions_of s) (stop : Backtracked s len p (values_of u)) where
       -- back at the last open decision
-      pub turn-backtrack : Turn s₀ u a p
-      turn-backtrack = record {
+      pub turn_backtrack : Turn s₀ u a p
+      turn_backtrack = record {
         sound = sound_same s u turn.sound e ev (ap length el) (ap length em);
         same = same_trans s₀ s u turn.same e;
         recorded = subst (λ (ts : List ℤ). Recorded (values_of u) ts p) (sym el) stop.recorded;
@@ -110,8 +110,8 @@ module _ (s₀ : TernarySearch) (a : List ℤ) where
       pub backtrack-within : nat_abs (get_or (trail_of s) p (pos 0)) ≤ length (values_of s)
       backtrack-within = turn.recorded.within p stop.less
 
-      pub backtrack-free : Free (values_of u) (neg_ℤ (get_or (trail_of s) p (pos 0)))
-      backtrack-free =
+      pub backtrack_free : Free (values_of u) (neg_ℤ (get_or (trail_of s) p (pos 0)))
+      backtrack_free =
           let n = abs_neg (get_or (trail_of s) p (pos 0)) in
           record {
             some = rw n backtrack-some;
@@ -120,20 +120,20 @@ module _ (s₀ : TernarySearch) (a : List ℤ) where
           }
 
       -- its negation is forced
-      pub backtrack-forced : ((row : Row) → Extends row (values_of s) → Sought s a row → ⊥) → (row : Row) → Sought s₀ a row → Before (trail_of u) p row → holds row (neg_ℤ (get_or (trail_of s) p (pos 0))) ≡ true
-      backtrack-forced f row w b =
+      pub backtrack_forced : ((row : Row) → Extends row (values_of s) → Sought s a row → ⊥) → (row : Row) → Sought s₀ a row → Before (trail_of u) p row → holds row (neg_ℤ (get_or (trail_of s) p (pos 0))) ≡ true
+      backtrack_forced f row w b =
           let l = stop.less in
           flipped (Sought s₀ a) (trail_of s) p backtrack-some (walked_to (Sought s₀ a) (trail_of s) (decisions_of s) (p + 1) len (omega (arith, l)) turn.closed stop.no_open (blocked f)) row w (subst (λ (ts : List ℤ). Before ts p row) el b)
 
-      pub turn-flip-less : (os : List ℤ) → os ≡ set (decisions_of u) p (pos 0) → weight (digit os (p + 1)) s₀.limit < weight (digit (decisions_of s) len) s₀.limit
-      turn-flip-less os eo =
-          let k = turn-backtrack.sound.decisions_len in
-          let c = turn-backtrack.same.limit in
-          let r = room-decisions' in
+      pub turn_flip_less : (os : List ℤ) → os ≡ set (decisions_of u) p (pos 0) → weight (digit os (p + 1)) s₀.limit < weight (digit (decisions_of s) len) s₀.limit
+      turn_flip_less os eo =
+          let k = turn_backtrack.sound.decisions_len in
+          let c = turn_backtrack.same.limit in
+          let r = room_decisions' in
           subst (λ (ks : List ℤ). weight (digit ks (p + 1)) s₀.limit < weight (digit (decisions_of s) len) s₀.limit) (sym (eo ∙ ap (λ (ks : List ℤ). set ks p (pos 0)) em)) (flip_less (decisions_of s) len p s₀.limit r stop.less (let q = ap length em in omega (arith, r, k, c, q)) stop.open')
         where
-          room-decisions' : p < length (decisions_of s)
-          room-decisions' =
+          room_decisions' : p < length (decisions_of s)
+          room_decisions' =
               let z = turn.recorded.count in
               let l = stop.less in
               omega (arith, z, l, turn.sound.decisions_len, turn.sound.values_len)

@@ -1,4 +1,6 @@
 // A solver that searches: clauses of up to three literals, tried on a trail of decisions, all in a slice that is lent to it.
+#![tactic(auto)]
+
 mod calls;
 mod occurrences;
 mod search;

@@ -1,4 +1,6 @@
 // How tests are written as records and logs, and what becomes of tests held. The definitions are in specs/, and each law stands on a function here.
+#![tactic(auto)]
+
 ghost use Rattle.test_format.specs.Law.{RecordReadsBack, TakenIsWritten, LogIsCut, LogReadsBack, AmendsOne, StrikesLast, TestsStayFit};
 
 // The record of any test is taken and gives that test: see the contract.

@@ -1,4 +1,6 @@
 // Test records: decoding them, cutting a log into them, and the table of the tests that are held.
+#![tactic(auto)]
+
 mod amend;
 mod bits;
 mod decode;

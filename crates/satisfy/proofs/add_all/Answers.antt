@@ -6,16 +6,16 @@ use Rattle.satisfy.specs.Clauses.{Narrowed, adds_refusal}
 use Rattle.satisfy.proofs.Adding.{narrowed_more, adds_stop, adds_more}
 use Rattle.satisfy.proofs.add_all.Goals as goal
 
-pub returns-in-err-add : goal.returns-in-err-add
-returns-in-err-add g c =
+pub returns-in_err-add : goal.returns-in_err-add
+returns-in_err-add g c =
     let m = g.S.Solver.meaning c.args.solver.now in
     let n = g.S.Solver.meaning c.loop-clause.solver in
     let cs = c.args.clauses.now in
     let i = c.loop-clause.clause-index in
     let h = c.loop-clause.invariant in
     let at = c.loop-clause-test.true in
-    let e = c.in-err-add.ensures in
-    let p = err_from_is_err_and c.from-residual.result c.from-residual.ensures.1 in
+    let e = c.in_err-add.ensures in
+    let p = err_from_is_err_and c.from_residual.result c.from_residual.ensures.1 in
     let stays = subst (λ s. Narrowed m (take i cs) (g.S.Solver.meaning s)) (sym e.cases) h.1 in
     let asks = h.2 ∙ adds_stop m n cs i _ at h.1 _ e.refused in
     rw (p.1, p.2) (record { refused = sym asks; cases = (i, at, stays); sound = c.add.ensures.sound })
@@ -29,8 +29,8 @@ loop-clause-preserved g c =
     let i = c.loop-clause.clause-index in
     let h = c.loop-clause.invariant in
     let at = c.loop-clause-test.true in
-    let a = c.in-ok-add.ensures.cases in
-    (c.add.ensures.sound, narrowed_more m n k cs i _ at h.1 a, h.2 ∙ adds_more m n cs i _ at h.1 k c.in-ok-add.ensures.refused a)
+    let a = c.in_ok-add.ensures.cases in
+    (c.add.ensures.sound, narrowed_more m n k cs i _ at h.1 a, h.2 ∙ adds_more m n cs i _ at h.1 k c.in_ok-add.ensures.refused a)
 
 pub returns : goal.returns
 returns g c =

@@ -3,4 +3,4 @@ use Rattle.std.proofs.Common.{◌≡◌, List, [], ◌∷◌, ℤ, subst}
 use Rattle.cnf.proofs.clause.take_long.Goals as goal
 
 pub returns : goal.returns
-returns g c = record { ready = c.take.ensures.ready; took = subst (λ (x : List ℤ). g.K.ClauseSink.took c.args.sink.now (x ∷ []) c.take.new.self) c.long-clause-clause.ensures c.take.ensures.took }
+returns g c = record { ready = c.take.ensures.ready; took = subst (λ (x : List ℤ). g.K.ClauseSink.took c.args.sink.now (x ∷ []) c.take.new.self) c.long_clause-clause.ensures c.take.ensures.took }

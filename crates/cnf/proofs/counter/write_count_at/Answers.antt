@@ -11,7 +11,7 @@ loop-j-preserved g c =
     let took = g.K.ClauseSink.took in
     let both = g.K.ClauseSink.both in
     let f : ℕ → List Clause = λ k. carry c.args.gates c.args.bound (suc c.args.before) k ++ step c.args.gates c.args.bound (suc c.args.before) k in
-    (c.write-step.ensures.ready, wrote_more took both _ _ _ f c.loop-j.j c.loop-j.invariant.1 (wrote_both took both _ _ _ _ _ c.write-carry.ensures.took c.write-step.ensures.took))
+    (c.write_step.ensures.ready, wrote_more took both _ _ _ f c.loop-j.j c.loop-j.invariant.1 (wrote_both took both _ _ _ _ _ c.write_carry.ensures.took c.write_step.ensures.took))
 
 pub returns : goal.returns
 returns g c =

@@ -9,7 +9,7 @@ pub loop-before-preserved : goal.loop-before-preserved
 loop-before-preserved g c =
     let took = g.K.ClauseSink.took in
     let both = g.K.ClauseSink.both in
-    (c.write-count-at.ensures.ready, wrote_more took both _ _ _ (count_at c.args.gates c.args.bound) c.loop-before.before c.loop-before.invariant.1 (wrote_as took both _ _ _ _ (ap (count_at c.args.gates c.args.bound) (sym (add-one _))) c.write-count-at.ensures.took))
+    (c.write_count_at.ensures.ready, wrote_more took both _ _ _ (count_at c.args.gates c.args.bound) c.loop-before.before c.loop-before.invariant.1 (wrote_as took both _ _ _ _ (ap (count_at c.args.gates c.args.bound) (sym (add-one _))) c.write_count_at.ensures.took))
 
 pub returns : goal.returns
 returns g c =

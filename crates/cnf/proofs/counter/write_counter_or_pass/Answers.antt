@@ -8,4 +8,4 @@ use Rattle.cnf.proofs.counter.write_counter_or_pass.Goals as goal
 pub returns-else-not-pass : goal.returns-else-not-pass
 returns-else-not-pass g c =
     let cs = counter c.args.gates c.args.bound in
-    record { ready = c.pass.ensures.ready; took = c.pass.ensures.passed c.if-not-pass.false (integers cs) (integers_length cs ∙ c.counter-clause-count-count.ensures) }
+    record { ready = c.pass.ensures.ready; took = c.pass.ensures.passed c.if-not-pass.false (integers cs) (integers_length cs ∙ c.counter_clause_count-count.ensures) }

@@ -6,4 +6,4 @@ use Rattle.cnf.proofs.Sized.{sized}
 use Rattle.cnf.proofs.formula.formula_sizes.Goals as goal
 
 pub returns : goal.returns
-returns c = sized (circuit_of c.args.circuit.now) c.args.tests.now c.args.bound.value _ _ (sound_held c.args.circuit.now) c.args.bound.few refl refl refl c.write-formula.ensures.took
+returns c = sized (circuit_of c.args.circuit.now) c.args.tests.now c.args.bound.value _ _ (sound_held c.args.circuit.now) c.args.bound.few refl refl refl c.write_formula.ensures.took

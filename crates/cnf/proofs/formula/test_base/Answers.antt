@@ -4,8 +4,8 @@ use Rattle.circuit.specs.Held.{circuit_of}
 use Rattle.cnf.proofs.Held.{sound_held, gates_same}
 use Rattle.cnf.proofs.formula.test_base.Goals as goal
 
-pub marks-and-tests-requires : goal.marks-and-tests-requires
-marks-and-tests-requires c =
+pub marks_and_tests-requires : goal.marks_and_tests-requires
+marks_and_tests-requires c =
     let s = sound_held c.args.circuit.now in
     let e = gates_same c.args.circuit.now _ c.gates.ensures in
     let i = c.inputs.ensures in
@@ -17,4 +17,4 @@ pub returns : goal.returns
 returns c =
     let e = gates_same c.args.circuit.now _ c.gates.ensures in
     let i = c.inputs.ensures in
-    record { value = c.marks-and-tests.ensures.value ∙ (λ j. e j * suc (suc c.args.bound) + c.args.test * (i j + e j * 3)); small = c.marks-and-tests.ensures.small }
+    record { value = c.marks_and_tests.ensures.value ∙ (λ j. e j * suc (suc c.args.bound) + c.args.test * (i j + e j * 3)); small = c.marks_and_tests.ensures.small }

@@ -5,8 +5,8 @@ use Rattle.cnf_theory.specs.Variables.{base}
 use Rattle.cnf.proofs.Sized.{tests_held}
 use Rattle.cnf.proofs.formula.variable_count.Goals as goal
 
-pub test-base-requires : goal.test-base-requires
-test-base-requires c =
+pub test_base-requires : goal.test_base-requires
+test_base-requires c =
     let few = c.args.bound.few in
     let n = c.value.ensures in
     let t = c.len.ensures in
@@ -15,4 +15,4 @@ test-base-requires c =
     (omega arith, omega arith)
 
 pub returns : goal.returns
-returns c = c.test-base.ensures.value ∙ (λ j. base (circuit_of c.args.circuit.now) (c.value.ensures j) (c.len.ensures j))
+returns c = c.test_base.ensures.value ∙ (λ j. base (circuit_of c.args.circuit.now) (c.value.ensures j) (c.len.ensures j))

@@ -7,13 +7,13 @@ use Rattle.cnf.proofs.Wrote.{wrote_both, wrote_as}
 use Rattle.cnf.proofs.Held.{gates_fair, tests_more}
 use Rattle.cnf.proofs.formula.write_tests.Goals as goal
 
-pub gates-clause-count-gates-requires : goal.gates-clause-count-gates-requires
-gates-clause-count-gates-requires g c = let fair = gates_fair c.args.circuit.now _ c.gates.ensures in record { sizes = fair.1; fair = fair.0 }
+pub gates_clause_count-gates-requires : goal.gates_clause_count-gates-requires
+gates_clause_count-gates-requires g c = let fair = gates_fair c.args.circuit.now _ c.gates.ensures in record { sizes = fair.1; fair = fair.0 }
 
-pub write-test-or-pass-requires : goal.write-test-or-pass-requires
-write-test-or-pass-requires g c =
-    let few = c.gates-clause-count-gates.ensures.few in
-    record { ready = c.loop-t.invariant.0; sizes = (c.test-base-base.ensures.small, omega arith); gates = λ B I. ap (λ gs. length (gates_clauses B I 1 gs)) (sym c.gates.ensures) ∙ c.gates-clause-count-gates.ensures.clauses B I }
+pub write_test_or_pass-requires : goal.write_test_or_pass-requires
+write_test_or_pass-requires g c =
+    let few = c.gates_clause_count-gates.ensures.few in
+    record { ready = c.loop-t.invariant.0; sizes = (c.test_base-base.ensures.small, omega arith); gates = λ B I. ap (λ gs. length (gates_clauses B I 1 gs)) (sym c.gates.ensures) ∙ c.gates_clause_count-gates.ensures.clauses B I }
 
 pub loop-t-preserved : goal.loop-t-preserved
 loop-t-preserved g c =
@@ -24,8 +24,8 @@ loop-t-preserved g c =
     let t = c.loop-t.t in
     let ts = c.args.tests.now in
     let test = c.index-tests-t.result in
-    let more : tests_clauses C N 0 (map test_of (take t ts)) ++ test_clauses C c.test-base-base.result (test_of test) ≡ tests_clauses C N 0 (map test_of (take (t + 1) ts)) = (λ j. tests_clauses C N 0 (map test_of (take t ts)) ++ test_clauses C (c.test-base-base.ensures.value j) (test_of (c.index-tests-t.is j))) ∙ sym (tests_more C N ts t test c.loop-t-test.true) in
-    (c.write-test-or-pass.ensures.ready, wrote_as took both _ _ _ _ more (wrote_both took both _ _ _ _ _ c.loop-t.invariant.1 c.write-test-or-pass.ensures.took))
+    let more : tests_clauses C N 0 (map test_of (take t ts)) ++ test_clauses C c.test_base-base.result (test_of test) ≡ tests_clauses C N 0 (map test_of (take (t + 1) ts)) = (λ j. tests_clauses C N 0 (map test_of (take t ts)) ++ test_clauses C (c.test_base-base.ensures.value j) (test_of (c.index-tests-t.is j))) ∙ sym (tests_more C N ts t test c.loop-t-test.true) in
+    (c.write_test_or_pass.ensures.ready, wrote_as took both _ _ _ _ more (wrote_both took both _ _ _ _ _ c.loop-t.invariant.1 c.write_test_or_pass.ensures.took))
 
 pub returns : goal.returns
 returns g c = record { ready = c.loop-t.invariant.0; took = wrote_as g.K.ClauseSink.took g.K.ClauseSink.both _ _ _ _ (ap (λ ts. tests_clauses (circuit_of c.args.circuit.now) c.args.bound 0 (map test_of ts)) (take_all _ _ c.loop-t-test.false)) c.loop-t.invariant.1 }

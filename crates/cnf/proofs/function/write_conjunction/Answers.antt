@@ -6,8 +6,8 @@ use Rattle.cnf.proofs.Wrote.{wrote_both, wrote_as, two_is, head_is}
 use Rattle.cnf.proofs.Pieces.{all_at, map_more}
 use Rattle.cnf.proofs.function.write_conjunction.Goals as goal
 
-pub take-two-requires : goal.take-two-requires
-take-two-requires g c = record {
+pub take_two-requires : goal.take_two-requires
+take_two-requires g c = record {
   ready = c.loop-a.invariant.0;
   small = (subst Small (sym c.signed.ensures.variable) c.requires.sizes.0, subst Small (sym c.signed-in-loop-a.ensures.variable) (all_at Small c.args.operands.now c.loop-a.a-index 0 c.loop-a-test.true c.requires.sizes.1.0));
 }
@@ -17,7 +17,7 @@ loop-a-preserved g c =
     let took = g.K.ClauseSink.took in
     let both = g.K.ClauseSink.both in
     let f : ℕ → Clause = λ a. signed (not c.args.value) c.args.l ∷ signed c.args.each a ∷ [] in
-    (c.take-two.ensures.ready, wrote_as took both _ _ _ _ (sym (map_more f c.args.operands.now c.loop-a.a-index 0 c.loop-a-test.true)) (wrote_both took both _ _ _ _ _ c.loop-a.invariant.1 (two_is took both _ _ _ _ _ _ c.take-two.ensures.took c.signed.ensures.literal c.signed-in-loop-a.ensures.literal)))
+    (c.take_two.ensures.ready, wrote_as took both _ _ _ _ (sym (map_more f c.args.operands.now c.loop-a.a-index 0 c.loop-a-test.true)) (wrote_both took both _ _ _ _ _ c.loop-a.invariant.1 (two_is took both _ _ _ _ _ _ c.take_two.ensures.took c.signed.ensures.literal c.signed-in-loop-a.ensures.literal)))
 
 pub returns : goal.returns
 returns g c =
@@ -25,6 +25,6 @@ returns g c =
     let both = g.K.ClauseSink.both in
     let f : ℕ → Clause = λ a. signed (not c.args.value) c.args.l ∷ signed c.args.each a ∷ [] in
     record {
-      ready = c.take-long.ensures.ready;
-      took = wrote_both took both _ _ _ _ _ (wrote_as took both _ _ _ _ (ap (map f) (take_all _ _ c.loop-a-test.false)) c.loop-a.invariant.1) (head_is took both _ _ _ _ _ c.take-long.ensures.took c.signed-2.ensures.literal);
+      ready = c.take_long.ensures.ready;
+      took = wrote_both took both _ _ _ _ _ (wrote_as took both _ _ _ _ (ap (map f) (take_all _ _ c.loop-a-test.false)) c.loop-a.invariant.1) (head_is took both _ _ _ _ _ c.take_long.ensures.took c.signed-2.ensures.literal);
     }

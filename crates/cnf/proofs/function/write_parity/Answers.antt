@@ -13,10 +13,10 @@ returns g c =
     let a = c.args.a in
     let b = c.args.b in
     record {
-      ready = c.take-three-4.ensures.ready;
+      ready = c.take_three-4.ensures.ready;
       took = four took both _ _ _ _ _ _ _ _ _
-          (third_is took both _ _ (positive a) (positive b) _ _ c.take-three.ensures.took even)
-          (third_is took both _ _ (negative a) (positive b) _ _ c.take-three-2.ensures.took uneven)
-          (third_is took both _ _ (positive a) (negative b) _ _ c.take-three-3.ensures.took uneven)
-          (third_is took both _ _ (negative a) (negative b) _ _ c.take-three-4.ensures.took even);
+          (third_is took both _ _ (positive a) (positive b) _ _ c.take_three.ensures.took even)
+          (third_is took both _ _ (negative a) (positive b) _ _ c.take_three-2.ensures.took uneven)
+          (third_is took both _ _ (positive a) (negative b) _ _ c.take_three-3.ensures.took uneven)
+          (third_is took both _ _ (negative a) (negative b) _ _ c.take_three-4.ensures.took even);
     }

@@ -4,14 +4,14 @@ use Rattle.cnf.specs.Code.{Near, variables_of}
 use Rattle.cnf.proofs.Pieces.{all_at, variables_more, small_variables}
 use Rattle.cnf.proofs.gates.operand_variables.Goals as goal
 
-pub signal-variable-requires : goal.signal-variable-requires
-signal-variable-requires c = record { sizes = (c.requires.sizes.0, c.requires.sizes.1.0); near = all_at Near c.args.operands.now c.loop-i.i _ c.loop-i-test.true c.requires.near }
+pub signal_variable-requires : goal.signal_variable-requires
+signal_variable-requires c = record { sizes = (c.requires.sizes.0, c.requires.sizes.1.0); near = all_at Near c.args.operands.now c.loop-i.i _ c.loop-i-test.true c.requires.near }
 
 pub loop-i-preserved : goal.loop-i-preserved
 loop-i-preserved c =
     let e8 = c.loop-i.invariant.0 in
     let m : c.loop-i.i < length c.loop-i.variables = omega arith in
-    (simp length-set e8, variables_more _ _ c.args.operands.now c.loop-i.variables c.loop-i.i _ _ c.loop-i-test.true m c.loop-i.invariant.1 c.signal-variable.ensures.value)
+    (simp length-set e8, variables_more _ _ c.args.operands.now c.loop-i.variables c.loop-i.i _ _ c.loop-i-test.true m c.loop-i.invariant.1 c.signal_variable.ensures.value)
 
 pub returns : goal.returns
 returns c =

@@ -12,9 +12,9 @@ returns g c =
     let both = g.K.ClauseSink.both in
     let B = c.args.base in
     let I = c.args.inputs in
-    let signals = c.as-slice-signals.ensures in
-    let same : take (length c.as-slice-signals.result.now) c.operand-variables-operands.result ≡ variables_of B I (listed c.args.gate.now.operands) = c.operand-variables-operands.ensures.value ∙ ap (variables_of B I) signals in
+    let signals = c.as_slice-signals.ensures in
+    let same : take (length c.as_slice-signals.result.now) c.operand_variables-operands.result ≡ variables_of B I (listed c.args.gate.now.operands) = c.operand_variables-operands.ensures.value ∙ ap (variables_of B I) signals in
     record {
-      ready = c.write-selection.ensures.ready;
-      took = wrote_as took both _ _ _ _ (gate_is B I c.args.before c.args.gate.now _ same) (wrote_both took both _ _ _ _ _ c.write-function.ensures.took c.write-selection.ensures.took);
+      ready = c.write_selection.ensures.ready;
+      took = wrote_as took both _ _ _ _ (gate_is B I c.args.before c.args.gate.now _ same) (wrote_both took both _ _ _ _ _ c.write_function.ensures.took c.write_selection.ensures.took);
     }

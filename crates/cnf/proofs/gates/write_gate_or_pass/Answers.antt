@@ -9,4 +9,4 @@ use Rattle.cnf.proofs.gates.write_gate_or_pass.Goals as goal
 pub returns-else-not-pass : goal.returns-else-not-pass
 returns-else-not-pass g c =
     let cs = gate_clauses c.args.base c.args.inputs (suc c.args.before) (gate_of c.args.gate.now) in
-    record { ready = c.pass.ensures.ready; took = c.pass.ensures.passed c.if-not-pass.false (integers cs) (integers_length cs ∙ c.gate-clause-count-count.ensures.clauses c.args.base c.args.inputs (suc c.args.before)) }
+    record { ready = c.pass.ensures.ready; took = c.pass.ensures.passed c.if-not-pass.false (integers cs) (integers_length cs ∙ c.gate_clause_count-count.ensures.clauses c.args.base c.args.inputs (suc c.args.before)) }

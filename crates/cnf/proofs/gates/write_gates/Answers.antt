@@ -8,8 +8,8 @@ use Rattle.cnf.proofs.Wrote.{wrote_both, wrote_as}
 use Rattle.cnf.proofs.Pieces.{all_at, gates_more}
 use Rattle.cnf.proofs.gates.write_gates.Goals as goal
 
-pub write-gate-or-pass-requires : goal.write-gate-or-pass-requires
-write-gate-or-pass-requires g c = record { ready = c.loop-i.invariant.0; sizes = (c.requires.sizes.0, (c.requires.sizes.1.0, omega arith)); fair = subst Fair (sym c.index-gates-i.is) (all_at Fair c.args.gates.now c.loop-i.i c.index-gates-i.result c.loop-i-test.true c.requires.fair) }
+pub write_gate_or_pass-requires : goal.write_gate_or_pass-requires
+write_gate_or_pass-requires g c = record { ready = c.loop-i.invariant.0; sizes = (c.requires.sizes.0, (c.requires.sizes.1.0, omega arith)); fair = subst Fair (sym c.index-gates-i.is) (all_at Fair c.args.gates.now c.loop-i.i c.index-gates-i.result c.loop-i-test.true c.requires.fair) }
 
 pub loop-i-preserved : goal.loop-i-preserved
 loop-i-preserved g c =
@@ -21,7 +21,7 @@ loop-i-preserved g c =
     let gs = c.args.gates.now in
     let gate = c.index-gates-i.result in
     let more : gates_clauses B I 1 (map gate_of (take i gs)) ++ gate_clauses B I (suc i) (gate_of gate) ≡ gates_clauses B I 1 (map gate_of (take (i + 1) gs)) = ap (λ x. gates_clauses B I 1 (map gate_of (take i gs)) ++ gate_clauses B I (suc i) (gate_of x)) c.index-gates-i.is ∙ sym (gates_more B I gs i gate c.loop-i-test.true) in
-    (c.write-gate-or-pass.ensures.ready, wrote_as took both _ _ _ _ more (wrote_both took both _ _ _ _ _ c.loop-i.invariant.1 c.write-gate-or-pass.ensures.took))
+    (c.write_gate_or_pass.ensures.ready, wrote_as took both _ _ _ _ more (wrote_both took both _ _ _ _ _ c.loop-i.invariant.1 c.write_gate_or_pass.ensures.took))
 
 pub returns : goal.returns
 returns g c = record { ready = c.loop-i.invariant.0; took = wrote_as g.K.ClauseSink.took g.K.ClauseSink.both _ _ _ _ (ap (λ gs. gates_clauses c.args.base c.args.inputs 1 (map gate_of gs)) (take_all _ _ c.loop-i-test.false)) c.loop-i.invariant.1 }

@@ -12,9 +12,9 @@ loop-i-preserved c =
     let ms = c.args.measured.now in
     let a : i < length os = omega arith in
     let b : i < length ms = omega arith in
-    let few = c.output-clause-count-found.ensures.few in
+    let few = c.output_clause_count-found.ensures.few in
     let so_far = c.loop-i.invariant.1 in (
-      λ B I. ap length (output_more B I os ms i (signal.Input 0) _ a b) ∙ length-append (output_clauses B I (take i os) (take i ms)) _ ∙ (λ j. c.loop-i.invariant.0 B I j + c.output-clause-count-found.ensures.clauses B I (get_or os i (signal.Input 0)) j),
+      λ B I. ap length (output_more B I os ms i (signal.Input 0) _ a b) ∙ length-append (output_clauses B I (take i os) (take i ms)) _ ∙ (λ j. c.loop-i.invariant.0 B I j + c.output_clause_count-found.ensures.clauses B I (get_or os i (signal.Input 0)) j),
       omega arith,
     )
 

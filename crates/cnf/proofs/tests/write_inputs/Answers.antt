@@ -9,9 +9,9 @@ pub loop-i-preserved : goal.loop-i-preserved
 loop-i-preserved g c =
     let took = g.K.ClauseSink.took in
     let both = g.K.ClauseSink.both in (
-      c.take-one.ensures.ready,
+      c.take_one.ensures.ready,
       wrote_as took both _ _ _ _ (sym (input_more c.args.base c.args.inputs.now c.loop-i.i _ c.loop-i-test.true))
-          (wrote_both took both _ _ _ _ _ c.loop-i.invariant.1 (one_is took both _ _ _ _ c.take-one.ensures.took c.signed.ensures.literal)),
+          (wrote_both took both _ _ _ _ _ c.loop-i.invariant.1 (one_is took both _ _ _ _ c.take_one.ensures.took c.signed.ensures.literal)),
     )
 
 pub returns : goal.returns

@@ -7,8 +7,8 @@ use Rattle.cnf.proofs.Pieces.{all_at}
 use Rattle.cnf.proofs.Held.{output_more, output_cut}
 use Rattle.cnf.proofs.tests.write_outputs.Goals as goal
 
-pub write-measured-requires : goal.write-measured-requires
-write-measured-requires g c =
+pub write_measured-requires : goal.write_measured-requires
+write_measured-requires g c =
     let l : c.loop-i.i < length c.args.outputs.now = omega arith in
     record { ready = c.loop-i.invariant.0; sizes = (c.requires.sizes.0, (c.requires.sizes.1, all_at Near c.args.outputs.now c.loop-i.i _ l c.requires.near)) }
 
@@ -18,7 +18,7 @@ loop-i-preserved g c =
     let both = g.K.ClauseSink.both in
     let a : c.loop-i.i < length c.args.outputs.now = omega arith in
     let b : c.loop-i.i < length c.args.measured.now = omega arith in
-    (c.write-measured.ensures.ready, wrote_as took both _ _ _ _ (sym (output_more c.args.base c.args.inputs c.args.outputs.now c.args.measured.now c.loop-i.i _ _ a b)) (wrote_both took both _ _ _ _ _ c.loop-i.invariant.1 c.write-measured.ensures.took))
+    (c.write_measured.ensures.ready, wrote_as took both _ _ _ _ (sym (output_more c.args.base c.args.inputs c.args.outputs.now c.args.measured.now c.loop-i.i _ _ a b)) (wrote_both took both _ _ _ _ _ c.loop-i.invariant.1 c.write_measured.ensures.took))
 
 pub returns : goal.returns
 returns g c =

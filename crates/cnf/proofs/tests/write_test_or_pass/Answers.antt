@@ -17,5 +17,5 @@ returns-else-not-pass g c =
     record {
       ready = c.pass.ensures.ready;
       took = c.pass.ensures.passed c.if-not-pass.false (integers cs)
-          (integers_length cs ∙ test_length C B t _ _ _ (ap length c.inputs.ensures) (c.requires.gates B C.inputs) (sym (λ j. length (output_clauses B C.inputs (c.outputs.ensures j) (c.outputs-2.ensures j))) ∙ c.outputs-clause-count.ensures.clauses B C.inputs));
+          (integers_length cs ∙ test_length C B t _ _ _ (ap length c.inputs.ensures) (c.requires.gates B C.inputs) (sym (λ j. length (output_clauses B C.inputs (c.outputs.ensures j) (c.outputs-2.ensures j))) ∙ c.outputs_clause_count.ensures.clauses B C.inputs));
     }

@@ -8,4 +8,4 @@ pub returns-then-n-lt10 : goal.returns-then-n-lt10
 returns-then-n-lt10 t c = appended_as _ _ _ _ (sym (decimal_digit c.args.n (omega arith))) c.push.ensures
 
 pub returns-else-n-lt10 : goal.returns-else-n-lt10
-returns-else-n-lt10 t c = appended_as _ _ _ _ (sym (decimal_step c.args.n (omega arith) (omega arith))) (appended_both _ _ _ _ _ c.push-decimal.ensures c.push-else-n-lt10.ensures)
+returns-else-n-lt10 t c = appended_as _ _ _ _ (sym (decimal_step c.args.n (omega arith) (omega arith))) (appended_both _ _ _ _ _ c.push_decimal.ensures c.push-else-n-lt10.ensures)

@@ -16,8 +16,8 @@ loop-literal-preserved c =
     let fits : SFits w32 (get_or zs i (pos 0)) = search rules in
     let own = ap (λ z. signed_decimal z ++ 32 ∷ []) (to_z-of_z w32 (get_or zs i (pos 0)) fits) in
     let same = ap length own in
-    let few = c.push-literal.ensures.short in
-    (appended_as _ _ _ _ (sym more) (appended_both _ _ _ _ _ c.loop-literal.invariant.0 (appended_as _ _ _ _ own c.push-literal.ensures.text)), omega arith)
+    let few = c.push_literal.ensures.short in
+    (appended_as _ _ _ _ (sym more) (appended_both _ _ _ _ _ c.loop-literal.invariant.0 (appended_as _ _ _ _ own c.push_literal.ensures.text)), omega arith)
 
 pub returns : goal.returns
 returns c =

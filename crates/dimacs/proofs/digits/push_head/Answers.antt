@@ -11,5 +11,5 @@ returns c =
     (appended_both _ _ _ _ _ c.push-5.ensures
     (appended_both _ _ _ _ _ c.push-6.ensures
     (appended_both _ _ _ _ _
-    (appended_both _ _ _ _ _ c.push-decimal.ensures (appended_both _ _ _ _ _ c.push-7.ensures c.push-decimal-2.ensures))
+    (appended_both _ _ _ _ _ c.push_decimal.ensures (appended_both _ _ _ _ _ c.push-7.ensures c.push_decimal-2.ensures))
     c.push-8.ensures))))))

@@ -10,5 +10,5 @@ returns c =
     let n = length-append (signed_decimal c.args.literal) (32 ∷ []) in
     let own = ap signed_decimal (to_z-of_z w32 c.args.literal c.ranges.literal) in
     let same = ap length own in
-    let few = c.push-signed.ensures.short in
-    record { text = appended_both _ _ _ _ _ (appended_as _ _ _ _ own c.push-signed.ensures.text) c.push.ensures; short = omega arith }
+    let few = c.push_signed.ensures.short in
+    record { text = appended_both _ _ _ _ _ (appended_as _ _ _ _ own c.push_signed.ensures.text) c.push.ensures; short = omega arith }

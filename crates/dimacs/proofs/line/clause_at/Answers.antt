@@ -13,4 +13,4 @@ returns c =
     let C = circuit_of c.args.circuit.now in
     let ts = tests_of c.args.tests.now in
     let N = c.args.bound.value in
-    is_clause (formula C ts N) c.args.j _ _ (nine_at_most C ts N (sound_held c.args.circuit.now)) refl refl c.write-formula.ensures.took
+    is_clause (formula C ts N) c.args.j _ _ (nine_at_most C ts N (sound_held c.args.circuit.now)) refl refl c.write_formula.ensures.took

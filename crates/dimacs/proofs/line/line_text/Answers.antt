@@ -15,11 +15,11 @@ returns-then-line-eq1 c =
     let C = circuit_of c.args.circuit.now in
     let ts = tests_of c.args.tests.now in
     let N = c.args.bound.value in
-    let v = c.variable-count.result in
-    let n = c.formula-sizes-sizes.result.count in
+    let v = c.variable_count.result in
+    let n = c.formula_sizes-sizes.result.count in
     let a : v < 2 ^ 64 = omega arith in
     let b : n < 2 ^ 64 = omega arith in
-    ap Some (filled _ _ (head_line v n) c.empty-text.ensures (head_short v n a b) c.push-head.ensures ∙ (λ j. head_line (c.variable-count.ensures j) (c.formula-sizes-sizes.ensures.count j)))
+    ap Some (filled _ _ (head_line v n) c.empty-text.ensures (head_short v n a b) c.push_head.ensures ∙ (λ j. head_line (c.variable_count.ensures j) (c.formula_sizes-sizes.ensures.count j)))
     ∙ ap (line_at (lines C ts N)) (sym c.if-line-eq1.true)
 
 pub returns-then-not-pick : goal.returns-then-not-pick
@@ -29,7 +29,7 @@ returns-then-not-pick c =
     let N = c.args.bound.value in
     let f = formula C ts N in
     let e : suc (suc (c.args.line - 2)) ≡ c.args.line = omega arith in
-    sym (nth_none clause_line f (c.args.line - 2) (c.clause-at-pick.ensures.none c.if-not-pick.true)) ∙ ap (line_at (lines C ts N)) e
+    sym (nth_none clause_line f (c.args.line - 2) (c.clause_at-pick.ensures.none c.if-not-pick.true)) ∙ ap (line_at (lines C ts N)) e
 
 pub returns : goal.returns
 returns c =
@@ -39,13 +39,13 @@ returns c =
     let f = formula C ts N in
     let j = c.args.line - 2 in
     let e : suc (suc j) ≡ c.args.line = omega arith in
-    let is = c.clause-at-pick.ensures.found c.if-not-pick.false in
-    let literals = take c.clause-at-pick.result.count c.clause-at-pick.result.literals in
-    let k = length-take c.clause-at-pick.result.count c.clause-at-pick.result.literals in
+    let is = c.clause_at-pick.ensures.found c.if-not-pick.false in
+    let literals = take c.clause_at-pick.result.count c.clause_at-pick.result.literals in
+    let k = length-take c.clause_at-pick.result.count c.clause_at-pick.result.literals in
     let nine = is.2 in
-    let short = c.push-clause.ensures.short in
+    let short = c.push_clause.ensures.short in
     let n = length-append (words_of literals) (48 ∷ 10 ∷ []) in
     let few : length (words_of literals ++ 48 ∷ 10 ∷ []) ≤ 128 = omega arith in
-    ap Some (filled _ _ (words_of literals ++ 48 ∷ 10 ∷ []) c.empty-text.ensures few c.push-clause.ensures.text ∙ ap (λ zs. words_of zs ++ 48 ∷ 10 ∷ []) is.1 ∙ line_of_clause (get_or f j []))
+    ap Some (filled _ _ (words_of literals ++ 48 ∷ 10 ∷ []) c.empty-text.ensures few c.push_clause.ensures.text ∙ ap (λ zs. words_of zs ++ 48 ∷ 10 ∷ []) is.1 ∙ line_of_clause (get_or f j []))
     ∙ sym (nth_mapped clause_line f j is.0)
     ∙ ap (line_at (lines C ts N)) e

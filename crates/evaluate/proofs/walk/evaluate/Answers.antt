@@ -16,7 +16,7 @@ loop-i-preserved g c =
       c.loop-i.invariant.0,
       simp length-set c.loop-i.invariant.1,
       λ k h.
-          gate_more (λ v. g.L.Logic.stands v k) (lane_forcing g.L.Logic.stands k c.args.forced.now) (in_lane g.L.Logic.stands k c.args.inputs.now) c.loop-i.values c.gates-gates.result.now c.loop-i.i c.gate-value-value.result c.index-gates-i.result c.loop-i-test.true room c.index-gates-i.is (c.loop-i.i - 0) (omega arith) (c.gate-value-value.ensures k h)
+          gate_more (λ v. g.L.Logic.stands v k) (lane_forcing g.L.Logic.stands k c.args.forced.now) (in_lane g.L.Logic.stands k c.args.inputs.now) c.loop-i.values c.gates-gates.result.now c.loop-i.i c.gate_value-value.result c.index-gates-i.result c.loop-i-test.true room c.index-gates-i.is (c.loop-i.i - 0) (omega arith) (c.gate_value-value.ensures k h)
           ∙ c.loop-i.invariant.2 k h,
     )
 

@@ -10,8 +10,8 @@ loop-t-preserved c =
     let f : HeldTest → Bool = λ x. get_or (test_of x).inputs c.args.input false in
     let room : c.loop-t.t < length c.loop-t.bits = omega (arith, c.requires) in (
       simp length-set c.loop-t.invariant.0,
-      fill_more f c.args.tests.now c.loop-t.bits c.loop-t.t c.index-tests-t.result c.input-bit.result c.loop-t-test.true room
-          (c.input-bit.ensures ∙ ap (λ l. get_or l c.args.input false) c.inputs.ensures ∙ ap f c.index-tests-t.is)
+      fill_more f c.args.tests.now c.loop-t.bits c.loop-t.t c.index-tests-t.result c.input_bit.result c.loop-t-test.true room
+          (c.input_bit.ensures ∙ ap (λ l. get_or l c.args.input false) c.inputs.ensures ∙ ap f c.index-tests-t.is)
           ∙ c.loop-t.invariant.1,
     )
 

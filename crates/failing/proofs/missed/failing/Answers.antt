@@ -13,17 +13,17 @@ use Rattle.failing.proofs.Filling.{fill_more, fill_all, map_test_of}
 use Rattle.failing.proofs.InLanes.{lane_of, few_tests, inputs_in_lane, gates_in_lane, shown_brings}
 use Rattle.failing.proofs.missed.failing.Goals as goal
 
-pub input-words-applied-requires : goal.input-words-applied-requires
-input-words-applied-requires c = few_tests c.args.tests.now c.tests-held.result.now c.tests-held.ensures
+pub input_words-applied-requires : goal.input_words-applied-requires
+input_words-applied-requires c = few_tests c.args.tests.now c.tests-held.result.now c.tests-held.ensures
 
 pub loop-t-init : goal.loop-t-init
 loop-t-init c = (refl, few_tests c.args.tests.now c.tests-held.result.now c.tests-held.ensures, refl)
 
 -- the lane of the test holds its inputs and its simulated values, if it has as many inputs as the circuit
 lane_holds :
-    (c : goal.After-is-shown) → length (test_of c.index-held-t.result).inputs ≡ (circuit_of c.args.circuit.now).inputs
-    → (in_test c.loop-t.t (take (c.inputs.result - 0) c.input-words-applied.result) ≡ (test_of c.index-held-t.result).inputs)
-    × (in_test c.loop-t.t (take (c.gate-count.result - 0) c.evaluate-table.result) ≡ values (circuit_of c.args.circuit.now) (member []) (λ _. false) (test_of c.index-held-t.result).inputs)
+    (c : goal.After-is_shown) → length (test_of c.index-held-t.result).inputs ≡ (circuit_of c.args.circuit.now).inputs
+    → (in_test c.loop-t.t (take (c.inputs.result - 0) c.input_words-applied.result) ≡ (test_of c.index-held-t.result).inputs)
+    × (in_test c.loop-t.t (take (c.gate_count.result - 0) c.evaluate-table.result) ≡ values (circuit_of c.args.circuit.now) (member []) (λ _. false) (test_of c.index-held-t.result).inputs)
 lane_holds c many =
     let C : Circuit = circuit_of c.args.circuit.now in
     let held : List HeldTest = c.tests-held.result.now in
@@ -31,15 +31,15 @@ lane_holds c many =
     let taken : t < length held = c.loop-t-test.true in
     let few : length held ≤ 32 = few_tests c.args.tests.now held c.tests-held.ensures in
     let listed : t < length (map test_of held) = omega (arith, length-map held test_of, taken) in
-    let inputs : List Word = take (c.inputs.result - 0) c.input-words-applied.result in
-    let room : c.inputs.result - 0 ≤ length c.input-words-applied.result = omega (arith, c.inputs.ensures, c.input-words-applied.ensures.len, c.args.circuit.now.few_inputs) in
+    let inputs : List Word = take (c.inputs.result - 0) c.input_words-applied.result in
+    let room : c.inputs.result - 0 ≤ length c.input_words-applied.result = omega (arith, c.inputs.ensures, c.input_words-applied.ensures.len, c.args.circuit.now.few_inputs) in
     let as_many : length (test_of c.index-held-t.result).inputs ≡ c.inputs.result - 0 = omega (arith, many, c.inputs.ensures) in
     let ins : in_test t inputs ≡ (test_of c.index-held-t.result).inputs =
-    inputs_in_lane (map test_of held) (test_of c.index-held-t.result) t (c.inputs.result - 0) c.input-words-applied.result listed
-    (λ d. get_or-map test_of held t c.index-held-t.result d taken ∙ ap test_of (sym c.index-held-t.is)) room c.input-words-applied.ensures.len as_many c.input-words-applied.ensures.each in
-    let all-gates : c.gate-count.result - 0 ≡ length C.gates = omega (arith, c.gate-count.ensures.value) in
+    inputs_in_lane (map test_of held) (test_of c.index-held-t.result) t (c.inputs.result - 0) c.input_words-applied.result listed
+    (λ d. get_or-map test_of held t c.index-held-t.result d taken ∙ ap test_of (sym c.index-held-t.is)) room c.input_words-applied.ensures.len as_many c.input_words-applied.ensures.each in
+    let all-gates : c.gate_count.result - 0 ≡ length C.gates = omega (arith, c.gate_count.ensures.value) in
     let lane_below : t < 32 = omega (arith, taken, few) in
-    (ins, gates_in_lane C t (test_of c.index-held-t.result).inputs inputs (take (c.gate-count.result - 0) c.evaluate-table.result) ins (ap (λ k. lane_of t (take k c.evaluate-table.result)) all-gates ∙ c.evaluate-table.ensures.lanes t lane_below))
+    (ins, gates_in_lane C t (test_of c.index-held-t.result).inputs inputs (take (c.gate_count.result - 0) c.evaluate-table.result) ins (ap (λ k. lane_of t (take k c.evaluate-table.result)) all-gates ∙ c.evaluate-table.ensures.lanes t lane_below))
 
 pub loop-t-preserved : goal.loop-t-preserved
 loop-t-preserved c =
@@ -47,8 +47,8 @@ loop-t-preserved c =
     let room : c.loop-t.t < length c.loop-t.missed = omega arith in (
       simp length-set c.loop-t.invariant.0,
       c.loop-t.invariant.1,
-      fill_more f c.tests-held.result.now c.loop-t.missed c.loop-t.t c.index-held-t.result (not c.is-shown.result) c.loop-t-test.true room
-          (shown_brings (circuit_of c.args.circuit.now) (test_of c.index-held-t.result) (in_test c.loop-t.t (take (c.inputs.result - 0) c.input-words-applied.result)) (in_test c.loop-t.t (take (c.gate-count.result - 0) c.evaluate-table.result)) c.is-shown.result c.is-shown.ensures (lane_holds c)
+      fill_more f c.tests-held.result.now c.loop-t.missed c.loop-t.t c.index-held-t.result (not c.is_shown.result) c.loop-t-test.true room
+          (shown_brings (circuit_of c.args.circuit.now) (test_of c.index-held-t.result) (in_test c.loop-t.t (take (c.inputs.result - 0) c.input_words-applied.result)) (in_test c.loop-t.t (take (c.gate_count.result - 0) c.evaluate-table.result)) c.is_shown.result c.is_shown.ensures (lane_holds c)
           ∙ ap f c.index-held-t.is)
           ∙ c.loop-t.invariant.2,
     )

@@ -14,11 +14,11 @@ packed_next c = packed_more c.args.bits.now c.loop-at.at (c.loop-at.at - 1) c.lo
 next_fits : (c : goal.After-from) → word_of (drop (c.loop-at.at - 1) c.args.bits.now) < 2 ^ 32
 next_fits c = packed_fits (drop (c.loop-at.at - 1) c.args.bits.now) (drop_few c.args.bits.now (c.loop-at.at - 1) c.requires)
 
-pub overflow-add-word : goal.overflow-add-word
-overflow-add-word c = omega (arith, packed_next c, next_fits c)
+pub overflow_add-word : goal.overflow_add-word
+overflow_add-word c = omega (arith, packed_next c, next_fits c)
 
-pub overflow-mul-word : goal.overflow-mul-word
-overflow-mul-word c = omega (arith, packed_next c, next_fits c)
+pub overflow_mul-word : goal.overflow_mul-word
+overflow_mul-word c = omega (arith, packed_next c, next_fits c)
 
 pub loop-at-preserved : goal.loop-at-preserved
 loop-at-preserved c = (omega arith, packed_next c)

@@ -8,19 +8,19 @@ use Rattle.lister.proofs.ask.fewest.Goals as goal
 pub loop-k-init : goal.loop-k-init
 loop-k-init g c = (c.requires.sound, kept_none _, λ j e. absurd (omega arith))
 
-pub ask-off-requires : goal.ask-off-requires
-ask-off-requires g c =
-    let e = c.last-count.ensures.value in
+pub ask_off-requires : goal.ask_off-requires
+ask_off-requires g c =
+    let e = c.last_count.ensures.value in
     let le = last_below c.args.gates c.args.bound c.loop-k.k (omega arith) in
     let v = c.loop-k.invariant.1.vars in
     let u = c.requires.vars in
-    let s = c.last-count.ensures.small in
+    let s = c.last_count.ensures.small in
     record { sound = c.loop-k.invariant.0; named = (s.0, (s.1, omega (arith, e, le, v, u))) }
 
 pub loop-k-preserved : goal.loop-k-preserved
 loop-k-preserved g c =
-    let e = c.last-count.ensures.value in
-    let a = c.if-ask-off.ensures in (
+    let e = c.last_count.ensures.value in
+    let a = c.if-ask_off.ensures in (
       a.sound,
       kept_both _ _ _ c.loop-k.invariant.1 a.kept,
       λ j q.
@@ -28,10 +28,10 @@ loop-k-preserved g c =
           (subst (λ (v : ℕ). NeverOff (g.S.Solver.meaning c.args.solver.now) v) (e ∙ ap (λ i. count_variable c.args.gates c.args.bound c.args.gates (suc i)) (sym s)) (never_kept _ _ _ c.loop-k.invariant.1 a.answer.0), a.answer.1),
     )
 
-pub returns-then-ask-off : goal.returns-then-ask-off
-returns-then-ask-off g c =
-    let e = c.last-count.ensures.value in
-    let a = c.if-ask-off.ensures in
+pub returns-then-ask_off : goal.returns-then-ask_off
+returns-then-ask_off g c =
+    let e = c.last_count.ensures.value in
+    let a = c.if-ask_off.ensures in
     record {
       sound = a.sound;
       kept = kept_both _ _ _ c.loop-k.invariant.1 a.kept;

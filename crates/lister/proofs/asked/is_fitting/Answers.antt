@@ -16,10 +16,10 @@ returns-then-gates-eq0 c =
     let e = gates_same c.args.circuit.now _ c.gates-gates.ensures in
     sym (and_left (ltb 0 (length (circuit_of c.args.circuit.now).gates)) _ (le-ltb 0 _ (omega arith)))
 
-pub returns-then-not-fits-tests : goal.returns-then-not-fits-tests
-returns-then-not-fits-tests c =
+pub returns-then-not-fits_tests : goal.returns-then-not-fits_tests
+returns-then-not-fits_tests c =
     let p = fits_test (circuit_of c.args.circuit.now) in
-    fitting_no_test (circuit_of c.args.circuit.now) (tests_of c.args.tests.now) (sets_of c.args.given.now) (ap (all p) (sym c.tests.ensures) ∙ sym c.if-not-fits-tests.ensures)
+    fitting_no_test (circuit_of c.args.circuit.now) (tests_of c.args.tests.now) (sets_of c.args.given.now) (ap (all p) (sym c.tests.ensures) ∙ sym c.if-not-fits_tests.ensures)
 
 pub returns : goal.returns
 returns c =
@@ -27,4 +27,4 @@ returns c =
     let given = sets_of c.args.given.now in
     let e = gates_same c.args.circuit.now _ c.gates-gates.ensures in
     let some : 0 < length C.gates = omega arith in
-    c.are-sets.ensures ∙ ap (λ n. all (above 0 n) given) e ∙ fitting_sets C (tests_of c.args.tests.now) given some (ap (all (fits_test C)) (sym c.tests.ensures) ∙ sym c.if-not-fits-tests.ensures)
+    c.are_sets.ensures ∙ ap (λ n. all (above 0 n) given) e ∙ fitting_sets C (tests_of c.args.tests.now) given some (ap (all (fits_test C)) (sym c.tests.ensures) ∙ sym c.if-not-fits_tests.ensures)

@@ -7,8 +7,8 @@ use Rattle.gate_set.specs.Held.{set_of}
 use Rattle.lister.specs.Asked.{GateNumbers}
 use Rattle.lister.proofs.bars.write_bar.Goals as goal
 
-pub bar-clause-clause-requires : goal.bar-clause-clause-requires
-bar-clause-clause-requires g c =
+pub bar_clause-clause-requires : goal.bar_clause-clause-requires
+bar_clause-clause-requires g c =
     let s = c.args.set.now in
     let e = ap length c.gates-gates.ensures ∙ length-take-le s.count s.places (let six = s.six in let few = s.few in omega arith) in
     let few = s.few in
@@ -16,5 +16,5 @@ bar-clause-clause-requires g c =
 
 pub returns : goal.returns
 returns g c =
-    let e = c.bar-clause-clause.ensures ∙ ap (λ xs. map integer (barring xs)) c.gates-gates.ensures in
+    let e = c.bar_clause-clause.ensures ∙ ap (λ xs. map integer (barring xs)) c.gates-gates.ensures in
     record { ready = c.take.ensures.ready; took = subst (λ (x : List ℤ). g.K.ClauseSink.took c.args.sink.now (x ∷ []) c.take.new.self) e c.take.ensures.took }

@@ -12,11 +12,11 @@ use Rattle.gate_set.specs.Held.{sets_of}
 use Rattle.lister.proofs.Barring.{sets_numbers}
 use Rattle.lister.proofs.fill.fill.Goals as goal
 
-pub begin-with-requires : goal.begin-with-requires
-begin-with-requires g c = record { sound = c.requires.sound; capacity = subst (λ (n : ℕ). n ≤ (g.S.Solver.meaning c.args.solver.now).sizes.capacity) (sym c.variable-count.ensures) c.requires.capacity }
+pub begin_with-requires : goal.begin_with-requires
+begin_with-requires g c = record { sound = c.requires.sound; capacity = subst (λ (n : ℕ). n ≤ (g.S.Solver.meaning c.args.solver.now).sizes.capacity) (sym c.variable_count.ensures) c.requires.capacity }
 
-pub write-bars-requires : goal.write-bars-requires
-write-bars-requires g c = record { ready = c.write-formula.ensures.ready; numbers = sets_numbers (length (circuit_of c.args.circuit.now).gates) _ c.requires.fits.circuit.few_gates c.requires.fits.sets }
+pub write_bars-requires : goal.write_bars-requires
+write_bars-requires g c = record { ready = c.write_formula.ensures.ready; numbers = sets_numbers (length (circuit_of c.args.circuit.now).gates) _ c.requires.fits.circuit.few_gates c.requires.fits.sets }
 
 pub returns : goal.returns
 returns g c =
@@ -28,6 +28,6 @@ returns g c =
     let cs = added C ts N given in
     let b = g.S.Solver.meaning c.args.solver.now in
     let within = added_within_variables C ts N given c.requires.fits in
-    let begun : Begun b V (g.S.Solver.meaning c.begin-with.new.solver) = subst (λ (v : ℕ). Begun b v (g.S.Solver.meaning c.begin-with.new.solver)) c.variable-count.ensures c.begin-with.ensures.begun in
-    let fed = fed_pieces _ _ _ (formula C ts N) (map barring given) c.write-formula.ensures.took c.write-bars.ensures.took in
-    record { sound = c.write-bars.ensures.ready; loaded = loaded b.sizes V cs _ within (filled b _ _ V cs begun within c.requires.width c.requires.room fed) }
+    let begun : Begun b V (g.S.Solver.meaning c.begin_with.new.solver) = subst (λ (v : ℕ). Begun b v (g.S.Solver.meaning c.begin_with.new.solver)) c.variable_count.ensures c.begin_with.ensures.begun in
+    let fed = fed_pieces _ _ _ (formula C ts N) (map barring given) c.write_formula.ensures.took c.write_bars.ensures.took in
+    record { sound = c.write_bars.ensures.ready; loaded = loaded b.sizes V cs _ within (filled b _ _ V cs begun within c.requires.width c.requires.room fed) }

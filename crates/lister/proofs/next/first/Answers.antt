@@ -16,8 +16,8 @@ lowest-requires g c =
     let ke = c.in-Some.ensures.kept in
     let fw = fewest_kept _ n G N k ke c.in-Some.ensures.fewest in
     let kN = fw.within in
-    let e = c.last-count-count.ensures.value in
-    let s = c.last-count-count.ensures.small in
+    let e = c.last_count-count.ensures.value in
+    let s = c.last_count-count.ensures.small in
     let vs = ke.vars in
     let a = c.requires.vars.0 in
     let b = c.requires.vars.1 in
@@ -30,8 +30,8 @@ lowest-requires g c =
       few = λ row al off. c.requires.counts k row kN (ke.only row al) (ap row (sym e) ∙ off);
     }
 
-pub returns-in-default : goal.returns-in-default
-returns-in-default g c = let a = c.in-default.ensures in record { sound = a.sound; kept = a.kept; first = a.fewest }
+pub returns-in_default : goal.returns-in_default
+returns-in_default g c = let a = c.in_default.ensures in record { sound = a.sound; kept = a.kept; first = a.fewest }
 
 pub returns : goal.returns
 returns g c =
@@ -41,7 +41,7 @@ returns g c =
     let n = g.S.Solver.meaning c.fewest.new.solver in
     let o = g.S.Solver.meaning c.lowest.new.solver in
     let ke = c.in-Some.ensures.kept in
-    let f : Found n (count_variable G N G (suc k)) G (set_of c.lowest.result) o = subst (λ (v : ℕ). Found n v G (set_of c.lowest.result) o) c.last-count-count.ensures.value c.lowest.ensures.found in
+    let f : Found n (count_variable G N G (suc k)) G (set_of c.lowest.result) o = subst (λ (v : ℕ). Found n v G (set_of c.lowest.result) o) c.last_count-count.ensures.value c.lowest.ensures.found in
     record {
       sound = c.lowest.ensures.sound;
       kept = kept_both _ _ _ ke c.lowest.ensures.kept;

@@ -15,10 +15,10 @@ use Rattle.lister.proofs.Enough.{enough_parts}
 use Rattle.lister.proofs.Nexts.{Counts, counted, next_is, found_set, found_readings}
 use Rattle.lister.proofs.next.next_set.Goals as goal
 
-pub is-enough-requires : goal.is-enough-requires
-is-enough-requires g c =
+pub is_enough-requires : goal.is_enough-requires
+is_enough-requires g c =
     let C = c.args.circuit.now in
-    let ok = fitting_given (circuit_of C) (tests_of c.args.tests.now) (sets_of c.args.given.now) (sound_held C) (sym c.if-not-is-fitting.ensures) in
+    let ok = fitting_given (circuit_of C) (tests_of c.args.tests.now) (sets_of c.args.given.now) (sound_held C) (sym c.if-not-is_fitting.ensures) in
     record { numbers = sets_numbers (length (circuit_of C).gates) _ (sound_held C).few_gates ok.sets }
 
 pub fill-requires : goal.fill-requires
@@ -26,8 +26,8 @@ fill-requires g c =
     let C = c.args.circuit.now in
     let ts = tests_of c.args.tests.now in
     let given = sets_of c.args.given.now in
-    let ok = fitting_given (circuit_of C) ts given (sound_held C) (sym c.if-not-is-fitting.ensures) in
-    let (v, w, p) = enough_parts (circuit_of C) ts c.args.bound.value given (g.S.Solver.meaning c.args.solver.now).sizes (sym c.if-not-is-enough.ensures) in
+    let ok = fitting_given (circuit_of C) ts given (sound_held C) (sym c.if-not-is_fitting.ensures) in
+    let (v, w, p) = enough_parts (circuit_of C) ts c.args.bound.value given (g.S.Solver.meaning c.args.solver.now).sizes (sym c.if-not-is_enough.ensures) in
     record { sound = c.requires; fits = ok; capacity = v; width = w; room = p }
 
 pub first-requires : goal.first-requires
@@ -36,7 +36,7 @@ first-requires g c =
     let ts = tests_of c.args.tests.now in
     let given = sets_of c.args.given.now in
     let m = g.S.Solver.meaning c.fill.new.solver in
-    let yes' = sym c.if-not-is-fitting.ensures in
+    let yes' = sym c.if-not-is_fitting.ensures in
     let some = fitting_gate (circuit_of C) ts given yes' in
     let few = (sound_held C).few_gates in
     let e = gates_same C _ c.gates.ensures in
@@ -50,8 +50,8 @@ first-requires g c =
       counts = known.bounded;
     }
 
-pub read-tests-readings-requires : goal.read-tests-readings-requires
-read-tests-readings-requires g c =
+pub read_tests-readings-requires : goal.read_tests-readings-requires
+read_tests-readings-requires g c =
     let C = c.args.circuit.now in
     let ts = tests_of c.args.tests.now in
     let N = c.args.bound.value in
@@ -59,7 +59,7 @@ read-tests-readings-requires g c =
     let m = g.S.Solver.meaning c.fill.new.solver in
     let n = g.S.Solver.meaning c.first.new.solver in
     let S = set_of c.in-Some.set in
-    let ok = fitting_given (circuit_of C) ts given (sound_held C) (sym c.if-not-is-fitting.ensures) in
+    let ok = fitting_given (circuit_of C) ts given (sound_held C) (sym c.if-not-is_fitting.ensures) in
     let e = gates_same C _ c.gates.ensures in
     let first : FirstOf m (length (circuit_of C).gates) N (Some S) n = subst₂ (λ (G k : ℕ). FirstOf m G k (Some S) n) e c.value.ensures c.in-Some.ensures.first in
     let len = c.len.ensures in
@@ -73,21 +73,21 @@ read-tests-readings-requires g c =
       vars = subst (λ (v : ℕ). base (circuit_of C) N c.len.result ≤ v) (sym vs) (subst (λ (k : ℕ). base (circuit_of C) N k ≤ variables (circuit_of C) ts N) (sym len) (omega arith));
     }
 
-pub returns-in-default : goal.returns-in-default
-returns-in-default g c =
+pub returns-in_default : goal.returns-in_default
+returns-in_default g c =
     let C = c.args.circuit.now in
     let ts = tests_of c.args.tests.now in
     let N = c.args.bound.value in
     let given = sets_of c.args.given.now in
     let m = g.S.Solver.meaning c.fill.new.solver in
     let n = g.S.Solver.meaning c.first.new.solver in
-    let yes' = sym c.if-not-is-fitting.ensures in
+    let yes' = sym c.if-not-is_fitting.ensures in
     let e = gates_same C _ c.gates.ensures in
-    let a = c.in-default.ensures in
+    let a = c.in_default.ensures in
     let first : FirstOf m (length (circuit_of C).gates) N None n = subst₂ (λ (G k : ℕ). FirstOf m G k None n) e c.value.ensures a.first in
     let ld = c.fill.ensures.loaded in
     record {
-      refused = sym (cond-true _ _ _ yes' ∙ cond-true _ _ _ (sym c.if-not-is-enough.ensures));
+      refused = sym (cond-true _ _ _ yes' ∙ cond-true _ _ _ (sym c.if-not-is_enough.ensures));
       untouched = tt;
       loaded = loaded_kept _ _ _ m n ld a.kept;
       next = next_is (circuit_of C) ts N given (fitting_given (circuit_of C) ts given (sound_held C) yes') _ m ld None n first;
@@ -104,7 +104,7 @@ returns g c =
     let m = g.S.Solver.meaning c.fill.new.solver in
     let n = g.S.Solver.meaning c.first.new.solver in
     let S = set_of c.in-Some.set in
-    let yes' = sym c.if-not-is-fitting.ensures in
+    let yes' = sym c.if-not-is_fitting.ensures in
     let ok = fitting_given (circuit_of C) ts given (sound_held C) yes' in
     let e = gates_same C _ c.gates.ensures in
     let a = c.in-Some.ensures in
@@ -112,10 +112,10 @@ returns g c =
     let ld = c.fill.ensures.loaded in
     let len = c.len.ensures in
     record {
-      refused = sym (cond-true _ _ _ yes' ∙ cond-true _ _ _ (sym c.if-not-is-enough.ensures));
+      refused = sym (cond-true _ _ _ yes' ∙ cond-true _ _ _ (sym c.if-not-is_enough.ensures));
       untouched = tt;
       loaded = loaded_kept _ _ _ m n ld a.kept;
       next = next_is (circuit_of C) ts N given ok _ m ld (Some S) n first;
-      readings = (c.read-tests-readings.ensures.len, found_readings (circuit_of C) ts N given ok _ m ld S n c.read-tests-readings.result first (λ t l. c.read-tests-readings.ensures.value t (omega arith)));
+      readings = (c.read_tests-readings.ensures.len, found_readings (circuit_of C) ts N given ok _ m ld S n c.read_tests-readings.result first (λ t l. c.read_tests-readings.ensures.value t (omega arith)));
       sound = a.sound;
     }

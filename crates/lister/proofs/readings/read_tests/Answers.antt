@@ -11,8 +11,8 @@ use Rattle.lister.specs.Readings.{told, Readable}
 use Rattle.lister.proofs.ReadingTests.{set_readable, bytes_more}
 use Rattle.lister.proofs.readings.read_tests.Goals as goal
 
-pub read-test-requires : goal.read-test-requires
-read-test-requires g c =
+pub read_test-requires : goal.read_test-requires
+read_test-requires g c =
     let C = c.args.circuit.now in
     let cc = circuit_of C in
     let N = c.args.bound.value in
@@ -22,16 +22,16 @@ read-test-requires g c =
     let few = (sound_held C).few_gates in
     let inputs = (sound_held C).few_inputs in
     let is = c.inputs.ensures in
-    let small = c.variables-before-base.ensures.small in
+    let small = c.variables_before-base.ensures.small in
     let at : min t 32 ≡ t = let l = c.requires.tests in omega arith in
-    let before : c.variables-before-base.result ≡ base cc N t = c.variables-before-base.ensures.value ∙ ap (base cc N) at in
+    let before : c.variables_before-base.result ≡ base cc N t = c.variables_before-base.ensures.value ∙ ap (base cc N) at in
     let len = ap length c.gates.ensures ∙ length-take-le s.count s.places (let six = s.six in let few = s.few in omega arith) in
     let six = s.few in
     let known = set_readable cc N c.args.tests V few c.requires.vars t (set_of s) c.loop-t-test.true c.requires.set in
     record {
       sound = c.requires.sound;
       sizes = (omega arith, (omega arith, omega arith));
-      reads = subst (λ (S : List ℕ). All (Readable V c.variables-before-base.result c.inputs.result) S) (sym c.gates.ensures) (subst (λ (b : ℕ). All (Readable V b c.inputs.result) (set_of s)) (sym before) (subst (λ (i : ℕ). All (Readable V (base cc N t) i) (set_of s)) (sym is) known));
+      reads = subst (λ (S : List ℕ). All (Readable V c.variables_before-base.result c.inputs.result) S) (sym c.gates.ensures) (subst (λ (b : ℕ). All (Readable V b c.inputs.result) (set_of s)) (sym before) (subst (λ (i : ℕ). All (Readable V (base cc N t) i) (set_of s)) (sym is) known));
     }
 
 pub loop-t-preserved : goal.loop-t-preserved
@@ -44,14 +44,14 @@ loop-t-preserved g c =
     let shown = (g.S.Solver.meaning c.args.solver.now).shown in
     let f : ℕ → ℕ = λ u. reading S (λ x. told shown (forced_variable (base cc N u) cc.inputs x)) in
     let at : min t 32 ≡ t = let l = c.requires.tests in omega arith in
-    let before : c.variables-before-base.result ≡ base cc N t = c.variables-before-base.ensures.value ∙ ap (base cc N) at in
+    let before : c.variables_before-base.result ≡ base cc N t = c.variables_before-base.ensures.value ∙ ap (base cc N) at in
     let len = c.loop-t.invariant.0 in
-    let e : c.read-test.result ≡ f t =
-    c.read-test.ensures
-    ∙ ap (λ X. reading X (λ x. told shown (forced_variable c.variables-before-base.result c.inputs.result x))) c.gates.ensures
+    let e : c.read_test.result ≡ f t =
+    c.read_test.ensures
+    ∙ ap (λ X. reading X (λ x. told shown (forced_variable c.variables_before-base.result c.inputs.result x))) c.gates.ensures
     ∙ ap (λ b. reading S (λ x. told shown (forced_variable b c.inputs.result x))) before
     ∙ ap (λ i. reading S (λ x. told shown (forced_variable (base cc N t) i x))) c.inputs.ensures in
-    (simp length-set len, bytes_more f c.loop-t.readings t c.read-test.result (let l = c.requires.tests in omega arith) c.loop-t.invariant.1 e)
+    (simp length-set len, bytes_more f c.loop-t.readings t c.read_test.result (let l = c.requires.tests in omega arith) c.loop-t.invariant.1 e)
 
 pub returns : goal.returns
 returns g c = record { len = c.loop-t.invariant.0; value = λ t l. c.loop-t.invariant.1 t (omega arith) }

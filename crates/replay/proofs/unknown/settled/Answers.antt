@@ -15,14 +15,14 @@ returns c =
     let inputs : List Bool = c.args.inputs.now in
     let S : List ℕ = c.args.set.now in
     let outs = c.outputs-outputs.result.now in
-    let yes : true ≡ admits C inputs S (length C.outputs) (length buffer) = c.if-not-is-admitted.ensures ∙ ap (λ l. admits C inputs S (length l) (length buffer)) c.outputs-outputs.ensures in
+    let yes : true ≡ admits C inputs S (length C.outputs) (length buffer) = c.if-not-is_admitted.ensures ∙ ap (λ l. admits C inputs S (length l) (length buffer)) c.outputs-outputs.ensures in
     let found = c.evaluate-values.ensures.lanes 0 (lit< tt) in
     record {
       refused = ap answer yes;
       after =
-          c.write-signals.ensures
+          c.write_signals.ensures
           ∙ ap (λ bytes. written bytes buffer)
-          (settled_bytes C inputs S outs _ _ _ c.outputs-outputs.ensures (ap (map known) (take_from_start (length inputs) c.known-inputs-applied.result) ∙ c.known-inputs-applied.ensures.value) (take_from_start (length S) c.forced-unknown-forced.result ∙ c.forced-unknown-forced.ensures.value)
-          (ap (map known) (take_from_start c.gate-count-count.result c.evaluate-values.result ∙ ap (λ n. take n c.evaluate-values.result) c.gate-count-count.ensures.value) ∙ found))
+          (settled_bytes C inputs S outs _ _ _ c.outputs-outputs.ensures (ap (map known) (take_from_start (length inputs) c.known_inputs-applied.result) ∙ c.known_inputs-applied.ensures.value) (take_from_start (length S) c.forced_unknown-forced.result ∙ c.forced_unknown-forced.ensures.value)
+          (ap (map known) (take_from_start c.gate_count-count.result c.evaluate-values.result ∙ ap (λ n. take n c.evaluate-values.result) c.gate_count-count.ensures.value) ∙ found))
           ∙ ap (λ t. cond t (written (settled C inputs S) buffer) buffer) yes;
     }

@@ -22,8 +22,8 @@ loop-word-init c =
 pub loop-word-preserved : goal.loop-word-preserved
 loop-word-preserved c =
     let w = c.in-Some-Word.word.now in
-    let s1 = c.next-token.new.self in
-    let s2 = c.next-token-in-loop-word.new.self in
+    let s1 = c.next_token.new.self in
+    let s2 = c.next_token-in-loop-word.new.self in
     let one : ahead c.loop-word.s ≡ word w ∷ ahead s1 = search rules in
     let two : ahead s1 ≡ sign 44 ∷ ahead s2 = search rules in
     let name : Some (name_of c.in-Some.name) ≡ cond (is_name w) (Some w) None = search rules in
@@ -42,8 +42,8 @@ loop-word-preserved c =
 pub returns-in-None : goal.returns-in-None
 returns-in-None c =
     let w = c.in-Some-Word.word.now in
-    let s1 = c.next-token.new.self in
-    let s2 = c.next-token-in-loop-word.new.self in
+    let s1 = c.next_token.new.self in
+    let s2 = c.next_token-in-loop-word.new.self in
     let one : ahead c.loop-word.s ≡ word w ∷ ahead s1 = search rules in
     let two : ahead s1 ≡ sign 41 ∷ ahead s2 = search rules in
     let last : ahead s2 ≡ [] = c.in-None.ensures.0 in

@@ -24,16 +24,16 @@ returns-in-44 c = (sym c.loop-i.invariant.0 ∙ lexemes_at_sign _ _ 44 c.if-i-li
 pub returns-in-61 : goal.returns-in-61
 returns-in-61 c = (sym c.loop-i.invariant.0 ∙ lexemes_at_sign _ _ 61 c.if-i-line.false c.in-61.is refl, omega (arith, c.loop-i.invariant.1), omega (arith, c.if-i-line.false), c.in-61.is)
 
-pub returns-in-default : goal.returns-in-default
-returns-in-default c =
+pub returns-in_default : goal.returns-in_default
+returns-in_default c =
     let within : c.loop-i.i < length c.args.line.now = c.if-i-line.false in
     let not32 : get_or c.args.line.now c.loop-i.i 0 ≡ 32 → ⊥ = elim c.loop-i-test.branch [ then-loop-i-test+else-line-i-eq32 w ↦ w.if-line-i-eq32.false | else-loop-i-test w ↦ λ _. omega (arith, w.loop-i-test.false) ] in
     let isName : name_byte (get_or c.args.line.now c.loop-i.i 0) ≡ true = name_byte_from _ (line_byte_at c.args.line.now _ c.requires within) not32 (λ e. omega arith) (λ e. omega arith) (λ e. omega arith) (λ e. omega arith) in
     let rest = take_rest c.args.line.now c.loop-i.i in
-    let isRun : c.word-len-n.result ≡ word_len (drop c.loop-i.i c.args.line.now) = c.word-len-n.ensures.value ∙ ap word_len rest in
-    let step = lexemes_at_word c.args.line.now c.loop-i.i c.word-len-n.result within isName isRun in
-    let short : c.word-len-n.result ≤ length c.args.line.now - c.loop-i.i = subst (λ x. c.word-len-n.result ≤ x) (ap length rest ∙ length-drop _ _) c.word-len-n.ensures.bound in (
-      sym c.loop-i.invariant.0 ∙ step.0 ∙ ap (λ x. word x ∷ lexemes (drop (c.loop-i.i + c.word-len-n.result) c.args.line.now)) (sym (take_of_rest c.args.line.now c.loop-i.i c.word-len-n.result)),
+    let isRun : c.word_len-n.result ≡ word_len (drop c.loop-i.i c.args.line.now) = c.word_len-n.ensures.value ∙ ap word_len rest in
+    let step = lexemes_at_word c.args.line.now c.loop-i.i c.word_len-n.result within isName isRun in
+    let short : c.word_len-n.result ≤ length c.args.line.now - c.loop-i.i = subst (λ x. c.word_len-n.result ≤ x) (ap length rest ∙ length-drop _ _) c.word_len-n.ensures.bound in (
+      sym c.loop-i.invariant.0 ∙ step.0 ∙ ap (λ x. word x ∷ lexemes (drop (c.loop-i.i + c.word_len-n.result) c.args.line.now)) (sym (take_of_rest c.args.line.now c.loop-i.i c.word_len-n.result)),
       omega (arith, step.1, c.loop-i.invariant.1),
       omega (arith, short, within),
       tt,

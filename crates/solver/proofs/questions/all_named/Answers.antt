@@ -8,12 +8,12 @@ use Rattle.solver.proofs.questions.all_named.Goals as goal
 pub loop-literal-preserved : goal.loop-literal-preserved
 loop-literal-preserved c =
     let fits : SFits w32 (get_or c.args.literals.now c.loop-literal.literal-index (pos 0)) = search rules in
-    all_more (named c.args.vars) _ _ (pos 0) c.loop-literal-test.true c.loop-literal.invariant (sym (rw (to_z-of_z w32 _ fits) at c.if-not-is-named.ensures))
+    all_more (named c.args.vars) _ _ (pos 0) c.loop-literal-test.true c.loop-literal.invariant (sym (rw (to_z-of_z w32 _ fits) at c.if-not-is_named.ensures))
 
-pub returns-then-not-is-named : goal.returns-then-not-is-named
-returns-then-not-is-named c =
+pub returns-then-not-is_named : goal.returns-then-not-is_named
+returns-then-not-is_named c =
     let fits : SFits w32 (get_or c.args.literals.now c.loop-literal.literal-index (pos 0)) = search rules in
-    sym (all_fails (named c.args.vars) _ _ (pos 0) c.loop-literal-test.true (sym (rw (to_z-of_z w32 _ fits) at c.if-not-is-named.ensures)))
+    sym (all_fails (named c.args.vars) _ _ (pos 0) c.loop-literal-test.true (sym (rw (to_z-of_z w32 _ fits) at c.if-not-is_named.ensures)))
 
 pub returns : goal.returns
 returns c = sym (rw (take_all _ _ c.loop-literal-test.false) at c.loop-literal.invariant)

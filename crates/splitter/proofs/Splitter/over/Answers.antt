@@ -5,18 +5,18 @@ use Rattle.solver.proofs.Refusals.{begin_accepted}
 use Rattle.splitter.specs.Sizes.{full_over, sizes_over}
 use Rattle.splitter.proofs.Splitter.over.Goals as goal
 
-pub begin-taken-requires : goal.begin-taken-requires
-begin-taken-requires g c =
+pub begin_taken-requires : goal.begin_taken-requires
+begin_taken-requires g c =
     let b = g.S.Solver.meaning c.args.below in
-    record { sound = c.requires; taken = begin_accepted b c.full-over-full.result (omega (arith, c.full-over-full.ensures)) }
+    record { sound = c.requires; taken = begin_accepted b c.full_over-full.result (omega (arith, c.full_over-full.ensures)) }
 
 pub returns : goal.returns
 returns g c =
     let b = g.S.Solver.meaning c.args.below in
-    let n = g.S.Solver.meaning c.begin-taken.new.below in
-    let full = c.full-over-full.result in
-    let e : full ≡ full_over b.sizes = c.full-over-full.ensures in
-    let h : Begun b full n = c.begin-taken.ensures.begun in
+    let n = g.S.Solver.meaning c.begin_taken.new.below in
+    let full = c.full_over-full.result in
+    let e : full ≡ full_over b.sizes = c.full_over-full.ensures in
+    let h : Begun b full n = c.begin_taken.ensures.begun in
     let same : full_over b.sizes ≡ full_over n.sizes = ap full_over (sym h.sizes) in
     let none = c.of.ensures.fresh in
     let all = c.of.ensures.room in
@@ -25,7 +25,7 @@ returns g c =
       sizes = ap sizes_over h.sizes;
       begun = subst (λ (v : ℕ). Begun b v n) e h;
       sound = (
-        c.begin-taken.ensures.sound,
+        c.begin_taken.ensures.sound,
         record {
           in_use = omega (arith, h.vars, e, same);
           roomy = omega (arith, h.room, e, all);

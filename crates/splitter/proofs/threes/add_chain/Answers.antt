@@ -39,8 +39,8 @@ negation-head-requires g c =
     let b = g.S.Solver.bounded c.loop-i.below h.0 in
     omega (arith, h.1, h.3.vars, b.vars, b.capacity, c.requires.fresh, c.loop-i-test.true)
 
-pub add-three-requires : goal.add-three-requires
-add-three-requires g c =
+pub add_three-requires : goal.add_three-requires
+add_three-requires g c =
     let xs = c.args.clause.now in
     let x = get_or xs c.loop-i.i (pos 0) in
     let n = g.S.Solver.meaning c.loop-i.below in
@@ -73,21 +73,21 @@ loop-i-preserved g c =
     let low = c.loop-i.auto.i in
     let fits : SFits w32 x = search rules in
     let link : SFits w32 c.literal.result = search rules in
-    let n = g.S.Solver.meaning c.add-three.new.below in
-    let now-vars = c.add-three.ensures.added.vars in
+    let n = g.S.Solver.meaning c.add_three.new.below in
+    let now-vars = c.add_three.ensures.added.vars in
     let were-vars = h.3.vars in
     let turned : SFits w32 c.negation-head.result = search rules in
     let back = to_z-of_z w32 c.negation-head.result turned ∙ c.negation-head.ensures in (
-      c.add-three.ensures.sound,
+      c.add_three.ensures.sound,
       omega arith,
       ap (named n.vars) back ∙ named_negation n.vars (c.loop-i.fresh + 1) (omega arith) (omega arith),
-      partly_more m _ _ _ (i - 1) h.3 _ (lit≤ tt) _ c.add-three.ensures.added _
+      partly_more m _ _ _ (i - 1) h.3 _ (lit≤ tt) _ c.add_three.ensures.added _
           (chain_step xs i c.loop-i.fresh _ _ _ _ (omega arith) (to_z-of_z w32 x fits) (to_z-of_z w32 c.literal.result link ∙ c.literal.ensures) back)
           (i + 1 - 1) (omega arith),
     )
 
-pub add-three-requires-2 : goal.add-three-requires-2
-add-three-requires-2 g c =
+pub add_three-requires-2 : goal.add_three-requires-2
+add_three-requires-2 g c =
     let xs = c.args.clause.now in
     let len = length xs in
     let x = get_or xs (len - 2) (pos 0) in
@@ -124,8 +124,8 @@ returns g c =
     let fits-x : SFits w32 x = search rules in
     let fits-y : SFits w32 y = search rules in
     record {
-      sound = c.add-three-2.ensures.sound;
-      split = partly_all m _ _ _ (i - 1) h.3 _ (lit≤ tt) _ c.add-three-2.ensures.added
+      sound = c.add_three-2.ensures.sound;
+      split = partly_all m _ _ _ (i - 1) h.3 _ (lit≤ tt) _ c.add_three-2.ensures.added
           (chain_last xs i c.loop-i.fresh _ _ _ (omega arith) (to_z-of_z w32 x fits-x ∙ ap (λ k. get_or xs k (pos 0)) (sym end)) (to_z-of_z w32 y fits-y ∙ ap (λ k. get_or xs k (pos 0)) (omega arith)))
           xs c.args.last (λ row. refl) (cond-false _ _ _ (lt-leb len 3 (omega arith)) ∙ omega arith);
     }

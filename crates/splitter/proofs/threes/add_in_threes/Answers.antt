@@ -5,8 +5,8 @@ use Rattle.solver.proofs.Refusals.{add_accepted}
 use Rattle.splitter.proofs.Chaining.{split_short}
 use Rattle.splitter.proofs.threes.add_in_threes.Goals as goal
 
-pub add-taken-requires : goal.add-taken-requires
-add-taken-requires g c =
+pub add_taken-requires : goal.add_taken-requires
+add_taken-requires g c =
     let m = g.S.Solver.meaning c.args.below.now in
     let xs = c.args.clause.now in
     let b = g.S.Solver.bounded c.args.below.now c.requires.sound in
@@ -18,4 +18,4 @@ add-taken-requires g c =
 
 pub returns-then-clause-le3 : goal.returns-then-clause-le3
 returns-then-clause-le3 g c =
-    record { sound = c.add-taken.ensures.sound; split = split_short _ _ c.args.clause.now c.args.last c.if-clause-le3.true c.add-taken.ensures.added }
+    record { sound = c.add_taken.ensures.sound; split = split_short _ _ c.args.clause.now c.args.last c.if-clause-le3.true c.add_taken.ensures.added }

@@ -9,8 +9,8 @@ use Rattle.ternary.proofs.TernarySearch.examine.Goals as goal
 pub returns-in-Satisfied : goal.returns-in-Satisfied
 returns-in-Satisfied c = tells_first_of_two c.args.self.now.values.now (λ row. StoredTrue row c.args.self.now.clauses.now c.args.self.now.count) (λ row. all_true row c.args.assumed.now ≡ true) c.in-Satisfied.ensures c.scan.result.status c.scan.ensures
 
-pub returns-in-default : goal.returns-in-default
-returns-in-default c = tells_second_of_two c.args.self.now.values.now (λ row. StoredTrue row c.args.self.now.clauses.now c.args.self.now.count) (λ row. all_true row c.args.assumed.now ≡ true) c.assumed-status-status.result c.in-default.not-Satisfied c.assumed-status-status.ensures
+pub returns-in_default : goal.returns-in_default
+returns-in_default c = tells_second_of_two c.args.self.now.values.now (λ row. StoredTrue row c.args.self.now.clauses.now c.args.self.now.count) (λ row. all_true row c.args.assumed.now ≡ true) c.assumed_status-status.result c.in_default.not-Satisfied c.assumed_status-status.ensures
 
-pub assumed-status-status-requires : goal.assumed-status-status-requires
-assumed-status-status-requires c = all_named_up c.args.self.now.vars (length c.args.self.now.values.now) (omega (arith, c.requires.sound.in_range, c.requires.sound.values_len)) c.args.assumed.now c.requires.named
+pub assumed_status-status-requires : goal.assumed_status-status-requires
+assumed_status-status-requires c = all_named_up c.args.self.now.vars (length c.args.self.now.values.now) (omega (arith, c.requires.sound.in_range, c.requires.sound.values_len)) c.args.assumed.now c.requires.named

@@ -13,7 +13,7 @@ loop-e-preserved c =
     let M : TernarySearch → Type 0 = λ t. Sound t × Same c.loop-v.self t × (c.args.self.now.vars + 3 * c.args.self.now.count ≤ length t.occurrences.now) in
     elim c.if-v-gt0.branch [
       | then-v-gt0+then-v-vars w ↦ subst M (sym w.self-is) (
-        record { clauses_len = g.clauses_len; values_len = g.values-len; trail_len = g.trail_len; decisions_len = g.decisions_len; counts = g.counts; in_range = g.in_range; small = g.small; literals = g.literals },
+        record { clauses_len = g.clauses_len; values_len = g.values_len; trail_len = g.trail_len; decisions_len = g.decisions_len; counts = g.counts; in_range = g.in_range; small = g.small; literals = g.literals },
         record { clauses = e.clauses; limit = e.limit; vars = e.vars; count = e.count; room = e.room },
         simp length-set c.loop-e.invariant.2,
       )

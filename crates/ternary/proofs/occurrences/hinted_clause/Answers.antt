@@ -11,4 +11,4 @@ returns-then-k-count c =
     let f-0 : SFits w32 (get_or xs (3 * k) (pos 0)) = search rules in
     let f-1 : SFits w32 (get_or xs (3 * k + 1) (pos 0)) = search rules in
     let f-2 : SFits w32 (get_or xs (3 * k + 2) (pos 0)) = search rules in
-    hinted_one c.args.values.now xs c.args.count k c.if-k-count.true c.clause-status.result (simp to_z-of_z at c.clause-status.ensures)
+    hinted_one c.args.values.now xs c.args.count k c.if-k-count.true c.clause_status.result (simp to_z-of_z at c.clause_status.ensures)

@@ -10,8 +10,8 @@ use Rattle.assignment.specs.declared.Status.TheVariants.{Forced}
 use Rattle.assignment.proofs.Statuses.{place_some, named_some, named_within}
 use Rattle.ternary.proofs.status.assumed_status.Goals as goal
 
-pub value-of-requires : goal.value-of-requires
-value-of-requires c =
+pub value_of-requires : goal.value_of-requires
+value_of-requires c =
     let x = get_or c.args.assumed.now c.loop-literal.literal-index (pos 0) in
     let fits : SFits w32 (get_or c.args.assumed.now c.loop-literal.literal-index (pos 0)) = search rules in
     rw (to_z-of_z w32 _ fits) (named_within (length c.args.values.now) x (all_at (named (length c.args.values.now)) c.args.assumed.now c.loop-literal.literal-index (pos 0) c.loop-literal-test.true c.requires))

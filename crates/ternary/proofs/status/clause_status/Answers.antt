@@ -12,6 +12,6 @@ returns c =
     let x = c.args.x in
     let y = c.args.y in
     let z = c.args.z in
-    let one : Tells vs (λ row. place_true row x ≡ true) c.with-literal-one.result = rw (to_z-of_z w32 x c.ranges.x) at (c.with-literal-one.ensures (λ _. false) (λ _ _ h. false≢true h)) in
-    let two : Tells vs (λ row. (place_true row x || place_true row y) ≡ true) c.with-literal-two.result = rw (to_z-of_z w32 y c.ranges.y) at (c.with-literal-two.ensures (λ row. place_true row x) one) in
-    rw (to_z-of_z w32 z c.ranges.z) at (c.with-literal.ensures (λ row. place_true row x || place_true row y) two)
+    let one : Tells vs (λ row. place_true row x ≡ true) c.with_literal-one.result = rw (to_z-of_z w32 x c.ranges.x) at (c.with_literal-one.ensures (λ _. false) (λ _ _ h. false≢true h)) in
+    let two : Tells vs (λ row. (place_true row x || place_true row y) ≡ true) c.with_literal-two.result = rw (to_z-of_z w32 y c.ranges.y) at (c.with_literal-two.ensures (λ row. place_true row x) one) in
+    rw (to_z-of_z w32 z c.ranges.z) at (c.with_literal.ensures (λ row. place_true row x || place_true row y) two)

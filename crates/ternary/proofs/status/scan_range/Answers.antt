@@ -23,7 +23,7 @@ loop-k-preserved c =
     let f-1 : SFits w32 (get_or xs (3 * k + 1) (pos 0)) = search rules in
     let f-2 : SFits w32 (get_or xs (3 * k + 2) (pos 0)) = search rules in
     let from = c.args.from in
-    elim c.match-clause-status.branch [
+    elim c.match-clause_status.branch [
       | in-Satisfied w ↦ subst (λ (o : ℤ). Scanned vs xs from (k + 1) o) (sym w.open-is) (scanned_satisfied vs xs from k _ c.loop-k.invariant (simp to_z-of_z at w.in-Satisfied.ensures))
       | in-Open+else-quick+then-open-eq0 w ↦
           let fits : SFits w32 w.in-Open.literal = search rules in

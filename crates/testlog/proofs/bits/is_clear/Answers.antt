@@ -4,12 +4,12 @@ use Rattle.test_format.specs.Packing.{unpack}
 use Rattle.test_format.proofs.Packed.{length_unpack}
 use Rattle.testlog.proofs.bits.is_clear.Goals as goal
 
-pub returns-then-bit-at : goal.returns-then-bit-at
-returns-then-bit-at c =
+pub returns-then-bit_at : goal.returns-then-bit_at
+returns-then-bit_at c =
     let u = unpack c.args.group.now in
     let i = c.loop-i.i in
     let here : i < length u = omega (arith, length_unpack c.args.group.now) in
-    let set : not (get_or u i false) ≡ false = ap not (sym c.if-bit-at.ensures) in
+    let set : not (get_or u i false) ≡ false = ap not (sym c.if-bit_at.ensures) in
     sym (all_fails not u i false here set) ∙ c.loop-i.invariant
 
 pub loop-i-preserved : goal.loop-i-preserved
@@ -17,7 +17,7 @@ loop-i-preserved c =
     let u = unpack c.args.group.now in
     let i = c.loop-i.i in
     let here : i < length u = omega (arith, length_unpack c.args.group.now) in
-    let unset : not (get_or u i false) ≡ true = ap not (sym c.if-bit-at.ensures) in
+    let unset : not (get_or u i false) ≡ true = ap not (sym c.if-bit_at.ensures) in
     sym (all_more not u i false here unset) ∙ c.loop-i.invariant
 
 pub returns : goal.returns

@@ -11,9 +11,9 @@ loop-i-preserved c =
     let xs = c.loop-i.inputs in
     let room : i < length xs = omega (arith, c.loop-i.invariant.1) in
     let here : i < length u = omega (arith, length_unpack c.args.group.now) in (
-      take_more_set xs i c.bit-at.result room
-          ∙ ap (λ (l : List Bool). l ++ c.bit-at.result ∷ []) c.loop-i.invariant.0
-          ∙ ap (λ b. take i u ++ b ∷ []) c.bit-at.ensures
+      take_more_set xs i c.bit_at.result room
+          ∙ ap (λ (l : List Bool). l ++ c.bit_at.result ∷ []) c.loop-i.invariant.0
+          ∙ ap (λ b. take i u ++ b ∷ []) c.bit_at.ensures
           ∙ sym (take_more u i false here),
-      length-set xs i c.bit-at.result ∙ c.loop-i.invariant.1,
+      length-set xs i c.bit_at.result ∙ c.loop-i.invariant.1,
     )

@@ -5,7 +5,7 @@ use Rattle.test_format.specs.Records.{map_of, filled}
 use Rattle.test_format.proofs.Packed.{length_unpack}
 use Rattle.test_format.proofs.Filling.{nothing_yet, filled_marked, filled_unmarked, filled_all}
 use Rattle.testlog.proofs.values.measured_outputs.Goals as goal
-use Rattle.testlog.proofs.values.measured_outputs.Goals.{then-bit-at, else-bit-at}
+use Rattle.testlog.proofs.values.measured_outputs.Goals.{then-bit_at, else-bit_at}
 
 pub loop-i-init : goal.loop-i-init
 loop-i-init c = (refl, λ k _. nothing_yet 64 k, omega arith, refl)
@@ -23,27 +23,27 @@ loop-i-preserved c =
     let room : i < length os = omega (arith, inv.3) in
     let here : i < length ms = omega arith in
     let behind = drop (i + 1) ms in
-    elim c.if-bit-at.branch [
-      | then-bit-at w ↦
-          let value : Option Bool = Some w.bit-at-then-bit-at.result in
-          let now-set : c.if-bit-at.outputs ≡ set os i value = w.outputs-is in (
-            ap (λ (o : List (Option Bool)). take (i + 1) o ++ filled behind (drop c.if-bit-at.next vs)) now-set
-                ∙ ap (λ n. take (i + 1) (set os i value) ++ filled behind (drop n vs)) w.next_is
-                ∙ ap (λ b. take (i + 1) (set os i (Some b)) ++ filled behind (drop (c.loop-i.next + 1) vs)) w.bit-at-then-bit-at.ensures
-                ∙ filled_marked ms vs i c.loop-i.next os here room (marked ∙ sym w.if-bit-at.ensures)
+    elim c.if-bit_at.branch [
+      | then-bit_at w ↦
+          let value : Option Bool = Some w.bit_at-then-bit_at.result in
+          let now-set : c.if-bit_at.outputs ≡ set os i value = w.outputs-is in (
+            ap (λ (o : List (Option Bool)). take (i + 1) o ++ filled behind (drop c.if-bit_at.next vs)) now-set
+                ∙ ap (λ n. take (i + 1) (set os i value) ++ filled behind (drop n vs)) w.next-is
+                ∙ ap (λ b. take (i + 1) (set os i (Some b)) ++ filled behind (drop (c.loop-i.next + 1) vs)) w.bit_at-then-bit_at.ensures
+                ∙ filled_marked ms vs i c.loop-i.next os here room (marked ∙ sym w.if-bit_at.ensures)
                 ∙ inv.0,
             λ k h. let other : k ≢ i = omega arith in ap (λ (o : List (Option Bool)). get_or o k None) now-set ∙ get_or-set_other os i k value None other ∙ inv.1 k (omega arith),
-            omega (arith, w.next_is),
+            omega (arith, w.next-is),
             ap length now-set ∙ length-set os i value ∙ inv.3,
           )
-      | else-bit-at w ↦
-          let same : c.if-bit-at.outputs ≡ os = w.outputs-is in (
-            ap (λ (o : List (Option Bool)). take (i + 1) o ++ filled behind (drop c.if-bit-at.next vs)) same
-                ∙ ap (λ n. take (i + 1) os ++ filled behind (drop n vs)) w.next_is
-                ∙ filled_unmarked ms (drop c.loop-i.next vs) i os here room (marked ∙ sym w.if-bit-at.ensures) (inv.1 i (omega arith))
+      | else-bit_at w ↦
+          let same : c.if-bit_at.outputs ≡ os = w.outputs-is in (
+            ap (λ (o : List (Option Bool)). take (i + 1) o ++ filled behind (drop c.if-bit_at.next vs)) same
+                ∙ ap (λ n. take (i + 1) os ++ filled behind (drop n vs)) w.next-is
+                ∙ filled_unmarked ms (drop c.loop-i.next vs) i os here room (marked ∙ sym w.if-bit_at.ensures) (inv.1 i (omega arith))
                 ∙ inv.0,
             λ k h. ap (λ (o : List (Option Bool)). get_or o k None) same ∙ inv.1 k (omega arith),
-            omega (arith, w.next_is),
+            omega (arith, w.next-is),
             ap length same ∙ inv.3,
           )
     ]

@@ -15,24 +15,32 @@ returns-then-len-ge-GATES c =
       | then-len-ge-GATES-via-else-len-ge-GATES+then-not-fits w ↦ record { taken = gate_unfit (circuit_of s) (gate_of c.args.gate) w.if-not-fits.ensures; after = refl }
     ]
 
-pub invariant-of-self : goal.invariant-of-self
-invariant-of-self c =
+pub invariant_of-self : goal.invariant_of-self
+invariant_of-self c =
     let s = c.args.self.now in
-    let v = c.push-reserved.new.self in
+    let v = c.push_reserved.new.self in
     let gs = map gate_of (vec_items s.gates) in
     let g = gate_of c.args.gate in
-    let pushed : map gate_of (vec_items v) ≡ gs ++ g ∷ [] = ap (map gate_of) c.push-reserved.ensures.items ∙ map_push gate_of (vec_items s.gates) c.args.gate in
+    let pushed : map gate_of (vec_items v) ≡ gs ++ g ∷ [] = ap (map gate_of) c.push_reserved.ensures.items ∙ map_push gate_of (vec_items s.gates) c.args.gate in
     let fit : fits s.inputs (0 + length gs) g ≡ true = subst (λ k. fits s.inputs k g ≡ true) (sym (zero-add (length gs))) (sym c.if-not-fits.ensures) in
-    let one : vec_len v ≡ vec_len s.gates + 1 = c.push-reserved.ensures.len in
+    let one : vec_len v ≡ vec_len s.gates + 1 = c.push_reserved.ensures.len in
     let more : vec_len s.gates ≤ vec_len v = omega arith in
     let same : s.inputs ≤ s.inputs = omega arith in
-    (s.few_inputs, (omega (arith, c.len.ensures, c.if-len-ge-GATES.false), (s.few_outputs, (subst (λ (l : List Gate). wired s.inputs 0 l ≡ true) (sym pushed) (wired_push s.inputs 0 gs g s.in_order fit), (all_there_more s.inputs s.inputs (vec_len s.gates) (vec_len v) (vec_items s.outputs) same more s.shown, (omega (arith, c.push-reserved.ensures.capacity), (s.output_room, tt)))))))
+    record {
+      few_inputs = s.few_inputs;
+      few_gates = omega (arith, c.len.ensures, c.if-len-ge-GATES.false);
+      few_outputs = s.few_outputs;
+      in_order = subst (λ (l : List Gate). wired s.inputs 0 l ≡ true) (sym pushed) (wired_push s.inputs 0 gs g s.in_order fit);
+      shown = all_there_more s.inputs s.inputs (vec_len s.gates) (vec_len v) (vec_items s.outputs) same more s.shown;
+      gate_room = omega (arith, c.push_reserved.ensures.capacity);
+      output_room = s.output_room;
+    }
 
 pub returns : goal.returns
 returns c =
     let s = c.args.self.now in
     let many : c.len.result ≡ length (circuit_of s).gates = c.len.ensures ∙ s.gates.ok.0 ∙ sym (length-map (vec_items s.gates) gate_of) in
-    let pushed = ap (map gate_of) c.push-reserved.ensures.items ∙ map_push gate_of (vec_items s.gates) c.args.gate in
+    let pushed = ap (map gate_of) c.push_reserved.ensures.items ∙ map_push gate_of (vec_items s.gates) c.args.gate in
     record {
       taken = gate_admitted (circuit_of s) (gate_of c.args.gate) c.len.result many c.if-len-ge-GATES.false c.if-not-fits.ensures;
       after = ap (λ (l : List Gate). record { inputs = s.inputs; gates = l; outputs = vec_items s.outputs }) pushed;

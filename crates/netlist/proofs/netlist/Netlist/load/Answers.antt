@@ -13,7 +13,7 @@ returns c =
     let text = c.args.text.now in
     let n = (draft_of c.read.new.self).netlist in
     let none : held_by p ≡ None = ap (λ b. chosen b (draft_of p.tables).netlist) c.if-self.false in
-    let taken : Ok n ≡ meaning text = c.in-ok-read.ensures in
+    let taken : Ok n ≡ meaning text = c.in_ok-read.ensures in
     record {
       refused = sym (ap (λ (h : Option Netlist). result_err (load h text)) none ∙ ap result_err (sym taken));
       after = sym (ap (λ (h : Option Netlist). kept h (load h text)) none ∙ ap (kept None) (sym taken));

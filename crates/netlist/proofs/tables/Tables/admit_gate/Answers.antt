@@ -16,7 +16,7 @@ use Rattle.scanner.specs.Named.{name_of}
 use Rattle.scanner.specs.Parsed.{names_of}
 use Rattle.netlist.specs.declared.tables.Tables.{Tables}
 use Rattle.netlist.specs.Drafts.{draft_of}
-use Rattle.netlist.proofs.Admitted.{gate-miscounted, gate-redefined, gate-asked, yes, no}
+use Rattle.netlist.proofs.Admitted.{gate_miscounted, gate_redefined, gate_asked, yes, no}
 use Rattle.netlist.proofs.tables.Tables.admit_gate.Goals as goal
 
 -- a gate whose operands were found fits
@@ -42,48 +42,55 @@ admits_fitting c g b f e = sym (e ∙ ap (λ x. ltb (length c.gates) 256 && x) f
 pub returns-then-not-takes : goal.returns-then-not-takes
 returns-then-not-takes c =
     let ns = names_of c.args.operands.now in
-    let many : length c.as-slice.result.now ≡ length ns = ap length c.as-slice.ensures ∙ sym (length-map (listed c.args.operands.now) name_of) in
-    sym (gate-miscounted (draft_of c.args.self.now) (name_of c.args.name) c.args.kind ns (ap (takes c.args.kind) (sym many) ∙ sym c.if-not-takes.ensures))
+    let many : length c.as_slice.result.now ≡ length ns = ap length c.as_slice.ensures ∙ sym (length-map (listed c.args.operands.now) name_of) in
+    sym (gate_miscounted (draft_of c.args.self.now) (name_of c.args.name) c.args.kind ns (ap (takes c.args.kind) (sym many) ∙ sym c.if-not-takes.ensures))
 
-pub returns-then-is-some : goal.returns-then-is-some
-returns-then-is-some c =
+pub returns-then-is_some : goal.returns-then-is_some
+returns-then-is_some c =
     let d = draft_of c.args.self.now in
     let ns = names_of c.args.operands.now in
-    let many : length c.as-slice.result.now ≡ length ns = ap length c.as-slice.ensures ∙ sym (length-map (listed c.args.operands.now) name_of) in
-    let known : is_some (signal d.netlist (name_of c.args.name)) ≡ true = ap is_some (sym (c.signal.ensures ∙ ap (signal d.netlist) c.as-bytes.ensures)) ∙ sym c.if-is-some.ensures in
-    sym (gate-redefined d (name_of c.args.name) c.args.kind ns (ap (takes c.args.kind) (sym many) ∙ sym c.if-not-takes.ensures) known)
+    let many : length c.as_slice.result.now ≡ length ns = ap length c.as_slice.ensures ∙ sym (length-map (listed c.args.operands.now) name_of) in
+    let known : is_some (signal d.netlist (name_of c.args.name)) ≡ true = ap is_some (sym (c.signal.ensures ∙ ap (signal d.netlist) c.as_bytes.ensures)) ∙ sym c.if-is_some.ensures in
+    sym (gate_redefined d (name_of c.args.name) c.args.kind ns (ap (takes c.args.kind) (sym many) ∙ sym c.if-not-takes.ensures) known)
 
-pub returns-in-default : goal.returns-in-default
-returns-in-default c =
+pub returns-in_default : goal.returns-in_default
+returns-in_default c =
     let d = draft_of c.args.self.now in
     let ns = names_of c.args.operands.now in
-    let many : length c.as-slice.result.now ≡ length ns = ap length c.as-slice.ensures ∙ sym (length-map (listed c.args.operands.now) name_of) in
-    let fresh : is_some (signal d.netlist (name_of c.args.name)) ≡ false = ap is_some (sym (c.signal.ensures ∙ ap (signal d.netlist) c.as-bytes.ensures)) ∙ sym c.if-is-some.ensures in
-    sym (gate-asked d (name_of c.args.name) c.args.kind ns None (ap (takes c.args.kind) (sym many) ∙ sym c.if-not-takes.ensures) fresh (sym c.in-default.ensures))
+    let many : length c.as_slice.result.now ≡ length ns = ap length c.as_slice.ensures ∙ sym (length-map (listed c.args.operands.now) name_of) in
+    let fresh : is_some (signal d.netlist (name_of c.args.name)) ≡ false = ap is_some (sym (c.signal.ensures ∙ ap (signal d.netlist) c.as_bytes.ensures)) ∙ sym c.if-is_some.ensures in
+    sym (gate_asked d (name_of c.args.name) c.args.kind ns None (ap (takes c.args.kind) (sym many) ∙ sym c.if-not-takes.ensures) fresh (sym c.in_default.ensures))
 
-pub returns-then-not-add-gate : goal.returns-then-not-add-gate
-returns-then-not-add-gate c =
+pub returns-then-not-add_gate : goal.returns-then-not-add_gate
+returns-then-not-add_gate c =
     let t = c.args.self.now in
     let d = draft_of t in
     let n = name_of c.args.name in
     let k = c.args.kind in
     let ns = names_of c.args.operands.now in
     let ss = listed c.in-Some.operands in
-    let many : length c.as-slice.result.now ≡ length ns = ap length c.as-slice.ensures ∙ sym (length-map (listed c.args.operands.now) name_of) in
+    let many : length c.as_slice.result.now ≡ length ns = ap length c.as_slice.ensures ∙ sym (length-map (listed c.args.operands.now) name_of) in
     let counted : takes k (length ns) ≡ true = ap (takes k) (sym many) ∙ sym c.if-not-takes.ensures in
-    let fresh : is_some (signal d.netlist n) ≡ false = ap is_some (sym (c.signal.ensures ∙ ap (signal d.netlist) c.as-bytes.ensures)) ∙ sym c.if-is-some.ensures in
+    let fresh : is_some (signal d.netlist n) ≡ false = ap is_some (sym (c.signal.ensures ∙ ap (signal d.netlist) c.as_bytes.ensures)) ∙ sym c.if-is_some.ensures in
     let found : signals d.netlist ns ≡ Some ss = sym c.in-Some.ensures in
     let g : Gate = record { kind = k; operands = ss } in
-    let full : ltb (length (circuit_of t.circuit).gates) 256 ≡ false = admits_fitting (circuit_of t.circuit) g false (found_fits t g ns counted found) c.if-not-add-gate.ensures.taken in
-    sym (gate-asked d n k ns (Some ss) counted fresh found ∙ no 8 (ltb (length (circuit_of t.circuit).gates) 256) (Ok (gate_added d n k ss)) full)
+    let full : ltb (length (circuit_of t.circuit).gates) 256 ≡ false = admits_fitting (circuit_of t.circuit) g false (found_fits t g ns counted found) c.if-not-add_gate.ensures.taken in
+    sym (gate_asked d n k ns (Some ss) counted fresh found ∙ no 8 (ltb (length (circuit_of t.circuit).gates) 256) (Ok (gate_added d n k ss)) full)
 
-pub invariant-of-self-2 : goal.invariant-of-self-2
-invariant-of-self-2 c =
+pub invariant_of-self-2 : goal.invariant_of-self-2
+invariant_of-self-2 c =
     let t = c.args.self.now in
     let g : Gate = record { kind = c.args.kind; operands = listed c.in-Some.operands } in
-    let after : circuit_of c.add-gate.new.self ≡ with_gate (circuit_of t.circuit) g = c.if-not-add-gate.ensures.after in
-    let gates : length (circuit_of c.add-gate.new.self).gates ≡ length (circuit_of t.circuit).gates + 1 = ap (λ (x : Circuit). length x.gates) after ∙ length_push (circuit_of t.circuit).gates g in
-    (t.inputs_named ∙ ap (λ (x : Circuit). x.inputs) (sym after), (omega (arith, c.push-reserved.ensures.len, gates, t.gates_named), (t.few_outputs, (t.input_room, (omega (arith, c.push-reserved.ensures.capacity, t.gate_room), (t.output_room, tt))))))
+    let after : circuit_of c.add_gate.new.self ≡ with_gate (circuit_of t.circuit) g = c.if-not-add_gate.ensures.after in
+    let gates : length (circuit_of c.add_gate.new.self).gates ≡ length (circuit_of t.circuit).gates + 1 = ap (λ (x : Circuit). length x.gates) after ∙ length_push (circuit_of t.circuit).gates g in
+    record {
+      inputs_named = t.inputs_named ∙ ap (λ (x : Circuit). x.inputs) (sym after);
+      gates_named = omega (arith, c.push_reserved.ensures.len, gates, t.gates_named);
+      few_outputs = t.few_outputs;
+      input_room = t.input_room;
+      gate_room = omega (arith, c.push_reserved.ensures.capacity, t.gate_room);
+      output_room = t.output_room;
+    }
 
 pub returns : goal.returns
 returns c =
@@ -93,13 +100,13 @@ returns c =
     let k = c.args.kind in
     let ns = names_of c.args.operands.now in
     let ss = listed c.in-Some.operands in
-    let many : length c.as-slice.result.now ≡ length ns = ap length c.as-slice.ensures ∙ sym (length-map (listed c.args.operands.now) name_of) in
+    let many : length c.as_slice.result.now ≡ length ns = ap length c.as_slice.ensures ∙ sym (length-map (listed c.args.operands.now) name_of) in
     let counted : takes k (length ns) ≡ true = ap (takes k) (sym many) ∙ sym c.if-not-takes.ensures in
-    let fresh : is_some (signal d.netlist n) ≡ false = ap is_some (sym (c.signal.ensures ∙ ap (signal d.netlist) c.as-bytes.ensures)) ∙ sym c.if-is-some.ensures in
+    let fresh : is_some (signal d.netlist n) ≡ false = ap is_some (sym (c.signal.ensures ∙ ap (signal d.netlist) c.as_bytes.ensures)) ∙ sym c.if-is_some.ensures in
     let found : signals d.netlist ns ≡ Some ss = sym c.in-Some.ensures in
     let g : Gate = record { kind = k; operands = ss } in
-    let room : ltb (length (circuit_of t.circuit).gates) 256 ≡ true = admits_fitting (circuit_of t.circuit) g true (found_fits t g ns counted found) c.if-not-add-gate.ensures.taken in
-    let after : circuit_of c.add-gate.new.self ≡ with_gate (circuit_of t.circuit) g = c.if-not-add-gate.ensures.after in
-    let names : map name_of (vec_items c.push-reserved.new.self) ≡ map name_of (vec_items t.gate_names) ++ n ∷ [] = ap (map name_of) c.push-reserved.ensures.items ∙ map_push name_of (vec_items t.gate_names) c.args.name in
+    let room : ltb (length (circuit_of t.circuit).gates) 256 ≡ true = admits_fitting (circuit_of t.circuit) g true (found_fits t g ns counted found) c.if-not-add_gate.ensures.taken in
+    let after : circuit_of c.add_gate.new.self ≡ with_gate (circuit_of t.circuit) g = c.if-not-add_gate.ensures.after in
+    let names : map name_of (vec_items c.push_reserved.new.self) ≡ map name_of (vec_items t.gate_names) ++ n ∷ [] = ap (map name_of) c.push_reserved.ensures.items ∙ map_push name_of (vec_items t.gate_names) c.args.name in
     (λ i. Ok (record { netlist = record { circuit = after i; input_names = d.netlist.input_names; gate_names = names i }; outputs = d.outputs }))
-    ∙ sym (gate-asked d n k ns (Some ss) counted fresh found ∙ yes 8 (ltb (length (circuit_of t.circuit).gates) 256) (Ok (gate_added d n k ss)) room)
+    ∙ sym (gate_asked d n k ns (Some ss) counted fresh found ∙ yes 8 (ltb (length (circuit_of t.circuit).gates) 256) (Ok (gate_added d n k ss)) room)

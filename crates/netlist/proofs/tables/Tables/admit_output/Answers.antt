@@ -20,6 +20,6 @@ returns c =
     let d = draft_of t in
     let n = name_of c.args.name in
     let many : length d.outputs ≡ c.len.result = length-map (vec_items t.output_lines) output_line_of ∙ sym t.output_lines.ok.0 ∙ sym c.len.ensures in
-    let lines : map output_line_of (vec_items c.push-reserved.new.self) ≡ d.outputs ++ record { line = c.args.line; name = n } ∷ [] = ap (map output_line_of) c.push-reserved.ensures.items ∙ map_push output_line_of (vec_items t.output_lines) _ in
+    let lines : map output_line_of (vec_items c.push_reserved.new.self) ≡ d.outputs ++ record { line = c.args.line; name = n } ∷ [] = ap (map output_line_of) c.push_reserved.ensures.items ∙ map_push output_line_of (vec_items t.output_lines) _ in
     ap (λ (l : List OutputLine). Ok (record { netlist = d.netlist; outputs = l })) lines
     ∙ sym (output_asked d n c.args.line true (lt-ltb (length d.outputs) 64 (omega (arith, c.if-len-ge-OUTPUTS.false))))

@@ -13,11 +13,11 @@ returns-then-inputs-eq0 c =
     let d = draft_of t in
     sym (or_left (eqb d.netlist.circuit.inputs 0) (none d.outputs || none d.netlist.circuit.gates) (eq-eqb _ 0 (sym c.inputs.ensures ∙ c.if-inputs-eq0.true)))
 
-pub returns-then-is-empty : goal.returns-then-is-empty
-returns-then-is-empty c =
+pub returns-then-is_empty : goal.returns-then-is_empty
+returns-then-is_empty c =
     let t = c.args.self.now in
     let d = draft_of t in
-    let no_output : none d.outputs ≡ true = sym (none_mapped output_line_of (vec_items t.output_lines) _ t.output_lines.ok.0) ∙ sym c.if-is-empty.ensures in
+    let no_output : none d.outputs ≡ true = sym (none_mapped output_line_of (vec_items t.output_lines) _ t.output_lines.ok.0) ∙ sym c.if-is_empty.ensures in
     sym (or_right (eqb d.netlist.circuit.inputs 0) (none d.outputs || none d.netlist.circuit.gates) (or_left (none d.outputs) (none d.netlist.circuit.gates) no_output))
 
 pub returns : goal.returns
@@ -25,7 +25,7 @@ returns c =
     let t = c.args.self.now in
     let d = draft_of t in
     let inputs : eqb d.netlist.circuit.inputs 0 ≡ false = ne_eqb _ 0 (λ z. c.if-inputs-eq0.false (c.inputs.ensures ∙ z)) in
-    let outputs : none d.outputs ≡ false = sym (none_mapped output_line_of (vec_items t.output_lines) _ t.output_lines.ok.0) ∙ sym c.if-is-empty.ensures in
+    let outputs : none d.outputs ≡ false = sym (none_mapped output_line_of (vec_items t.output_lines) _ t.output_lines.ok.0) ∙ sym c.if-is_empty.ensures in
     let gates : length c.gates.result.now ≡ length (vec_items t.circuit.gates) = sym (length-map c.gates.result.now gate_of) ∙ ap length c.gates.ensures ∙ length-map (vec_items t.circuit.gates) gate_of in
-    c.is-empty-2.ensures ∙ none_mapped gate_of (vec_items t.circuit.gates) _ gates
+    c.is_empty-2.ensures ∙ none_mapped gate_of (vec_items t.circuit.gates) _ gates
     ∙ sym (λ i. inputs i || (outputs i || none d.netlist.circuit.gates))

@@ -13,7 +13,7 @@ returns-in-Input c =
     let s : skipped l ≡ false = search rules in
     let e : stray 1 l ≡ None = search rules in
     let f : statement (lexemes l) ≡ Some (input (name_of c.in-Input.name)) = search rules in
-    statement_read (draft_of c.args.self.now) c.args.number l s e c.admit-input.result (draft_of c.admit-input.new.self) (input (name_of c.in-Input.name)) f c.admit-input.ensures
+    statement_read (draft_of c.args.self.now) c.args.number l s e c.admit_input.result (draft_of c.admit_input.new.self) (input (name_of c.in-Input.name)) f c.admit_input.ensures
 
 pub returns-in-Output : goal.returns-in-Output
 returns-in-Output c =
@@ -21,7 +21,7 @@ returns-in-Output c =
     let s : skipped l ≡ false = search rules in
     let e : stray 1 l ≡ None = search rules in
     let f : statement (lexemes l) ≡ Some (output (name_of c.in-Output.name)) = search rules in
-    statement_read (draft_of c.args.self.now) c.args.number l s e c.admit-output.result (draft_of c.admit-output.new.self) (output (name_of c.in-Output.name)) f c.admit-output.ensures
+    statement_read (draft_of c.args.self.now) c.args.number l s e c.admit_output.result (draft_of c.admit_output.new.self) (output (name_of c.in-Output.name)) f c.admit_output.ensures
 
 pub returns-in-Gate : goal.returns-in-Gate
 returns-in-Gate c =
@@ -29,7 +29,7 @@ returns-in-Gate c =
     let s : skipped l ≡ false = search rules in
     let e : stray 1 l ≡ None = search rules in
     let f : statement (lexemes l) ≡ Some (gate (name_of c.in-Gate.name) c.in-Gate.kind (names_of c.in-Gate.operands)) = search rules in
-    statement_read (draft_of c.args.self.now) c.args.number l s e c.admit-gate.result (draft_of c.admit-gate.new.self) (gate (name_of c.in-Gate.name) c.in-Gate.kind (names_of c.in-Gate.operands)) f c.admit-gate.ensures
+    statement_read (draft_of c.args.self.now) c.args.number l s e c.admit_gate.result (draft_of c.admit_gate.new.self) (gate (name_of c.in-Gate.name) c.in-Gate.kind (names_of c.in-Gate.operands)) f c.admit_gate.ensures
 
 pub returns-in-Crowded : goal.returns-in-Crowded
 returns-in-Crowded c =

@@ -9,21 +9,21 @@ use Rattle.netlist.specs.declared.tables.Tables.{Tables}
 use Rattle.netlist.specs.Drafts.{draft_of}
 use Rattle.netlist.proofs.Shown.{shown_again, shown_new, found_admitted}
 use Rattle.netlist.proofs.tables.Tables.show.Goals as goal
-use Rattle.netlist.proofs.tables.Tables.show.Goals.{then-is-shown-via-then-is-shown, then-is-shown-via-else-is-shown+then-not-add-output}
+use Rattle.netlist.proofs.tables.Tables.show.Goals.{then-is_shown-via-then-is_shown, then-is_shown-via-else-is_shown+then-not-add_output}
 
-pub returns-then-is-shown : goal.returns-then-is-shown
-returns-then-is-shown c =
+pub returns-then-is_shown : goal.returns-then-is_shown
+returns-then-is_shown c =
     let t = c.args.self.now in
     let n = (draft_of t).netlist in
     let s = c.in-Some.signal in
-    let found : Some s ≡ signal n (name_of c.args.output.name) = c.in-Some.ensures ∙ ap (signal n) c.as-bytes.ensures in
+    let found : Some s ≡ signal n (name_of c.args.output.name) = c.in-Some.ensures ∙ ap (signal n) c.as_bytes.ensures in
     let room : _ = found_admitted t (name_of c.args.output.name) s found c.requires in
-    elim c.then-is-shown.branch [
-      | then-is-shown-via-then-is-shown w ↦ record {
-        value = sym (ap (shown n c.args.output.line) (sym found) ∙ shown_again n c.args.output.line s (sym w.if-is-shown.ensures));
+    elim c.then-is_shown.branch [
+      | then-is_shown-via-then-is_shown w ↦ record {
+        value = sym (ap (shown n c.args.output.line) (sym found) ∙ shown_again n c.args.output.line s (sym w.if-is_shown.ensures));
         lines = ap (λ (x : Tables). x.output_lines) w.self-is;
       }
-      | then-is-shown-via-else-is-shown+then-not-add-output w ↦ absurd (both_ways _ (sym w.if-not-add-output.ensures.taken) room)
+      | then-is_shown-via-else-is_shown+then-not-add_output w ↦ absurd (both_ways _ (sym w.if-not-add_output.ensures.taken) room)
     ]
 
 pub returns : goal.returns
@@ -31,9 +31,9 @@ returns c =
     let t = c.args.self.now in
     let n = (draft_of t).netlist in
     let s = c.in-Some.signal in
-    let found : Some s ≡ signal n (name_of c.args.output.name) = c.in-Some.ensures ∙ ap (signal n) c.as-bytes.ensures in
+    let found : Some s ≡ signal n (name_of c.args.output.name) = c.in-Some.ensures ∙ ap (signal n) c.as_bytes.ensures in
     record {
-      value = ap (λ (x : Circuit). Ok (record { circuit = x; input_names = n.input_names; gate_names = n.gate_names })) c.if-not-add-output.ensures.after
-          ∙ sym (ap (shown n c.args.output.line) (sym found) ∙ shown_new n c.args.output.line s (sym c.if-is-shown.ensures));
+      value = ap (λ (x : Circuit). Ok (record { circuit = x; input_names = n.input_names; gate_names = n.gate_names })) c.if-not-add_output.ensures.after
+          ∙ sym (ap (shown n c.args.output.line) (sym found) ∙ shown_new n c.args.output.line s (sym c.if-is_shown.ensures));
       lines = refl;
     }

@@ -10,28 +10,28 @@ use Rattle.netlist.specs.Drafts.{draft_of}
 use Rattle.netlist.proofs.Found.{joined_after, joined_none, signals_more, signals_lack, signals_all}
 use Rattle.netlist.proofs.tables.Tables.signals.Goals as goal
 
-pub returns-in-default : goal.returns-in-default
-returns-in-default c =
+pub returns-in_default : goal.returns-in_default
+returns-in_default c =
     let n = (draft_of c.args.self.now).netlist in
-    let xs = c.as-slice-words.result.now in
-    let unknown : None ≡ signal n (name_of c.name-item.result) = c.in-default.ensures ∙ ap (signal n) c.as-bytes.ensures in
+    let xs = c.as_slice-words.result.now in
+    let unknown : None ≡ signal n (name_of c.name-item.result) = c.in_default.ensures ∙ ap (signal n) c.as_bytes.ensures in
     sym (signals_lack n xs c.loop-name.name-index c.name-item.result c.loop-name-test.true c.name-item.is (listed c.loop-name.operands) unknown)
-    ∙ c.loop-name.invariant.0 ∙ ap (λ l. signals n (map name_of l)) c.as-slice-words.ensures
+    ∙ c.loop-name.invariant.0 ∙ ap (λ l. signals n (map name_of l)) c.as_slice-words.ensures
 
 pub loop-name-init : goal.loop-name-init
 loop-name-init c =
     let n = (draft_of c.args.self.now).netlist in
-    let all = signals n (map name_of c.as-slice-words.result.now) in
+    let all = signals n (map name_of c.as_slice-words.result.now) in
     (ap (λ (found : List Signal). joined_after found all) c.none-operands.ensures ∙ joined_none all, ap length c.none-operands.ensures)
 
 pub loop-name-preserved : goal.loop-name-preserved
 loop-name-preserved c =
     let n = (draft_of c.args.self.now).netlist in
-    let xs = c.as-slice-words.result.now in
+    let xs = c.as_slice-words.result.now in
     let i = c.loop-name.name-index in
     let found = listed c.loop-name.operands in
-    let known : Some c.in-Some.signal ≡ signal n (name_of c.name-item.result) = c.in-Some.ensures ∙ ap (signal n) c.as-bytes.ensures in
-    let few : length xs ≤ 8 = omega (arith, ap length c.as-slice-words.ensures, listed_few c.args.names.now) in
+    let known : Some c.in-Some.signal ≡ signal n (name_of c.name-item.result) = c.in-Some.ensures ∙ ap (signal n) c.as_bytes.ensures in
+    let few : length xs ≤ 8 = omega (arith, ap length c.as_slice-words.ensures, listed_few c.args.names.now) in
     let room : length found < 8 = omega (arith, c.loop-name.invariant.1, c.loop-name-test.true, few) in
     let pushed : listed c.push.new.self ≡ found ++ c.in-Some.signal ∷ [] = c.push.ensures.after ∙ cond-true c.push.result (found ++ c.in-Some.signal ∷ []) found (c.push.ensures.value ∙ lt-ltb (length found) 8 room) in (
       ap (λ (l : List Signal). joined_after l (signals n (map name_of (drop (i + 1) xs)))) pushed
@@ -43,6 +43,6 @@ loop-name-preserved c =
 pub returns : goal.returns
 returns c =
     let n = (draft_of c.args.self.now).netlist in
-    let xs = c.as-slice-words.result.now in
+    let xs = c.as_slice-words.result.now in
     sym (signals_all n xs c.loop-name.name-index (listed c.loop-name.operands) c.loop-name-test.false)
-    ∙ c.loop-name.invariant.0 ∙ ap (λ l. signals n (map name_of l)) c.as-slice-words.ensures
+    ∙ c.loop-name.invariant.0 ∙ ap (λ l. signals n (map name_of l)) c.as_slice-words.ensures

@@ -13,13 +13,13 @@ use Rattle.row_walker.proofs.calls.RowWalkerSolver.add.Goals as goal
 pub of-requires : goal.of-requires
 of-requires c =
     let w = c.args.self.now in
-    all_named_up w.vars 24 w.ok.0 c.args.clause.now (sym c.if-not-all-named.ensures)
+    all_named_up w.vars 24 w.ok.0 c.args.clause.now (sym c.if-not-all_named.ensures)
 
 pub keep-requires : goal.keep-requires
 keep-requires c =
     let w = c.args.self.now in
     let there : w.count < length w.clauses = omega (arith, price_positive (length c.args.clause.now), c.price-price.ensures, c.if-price-self.false) in
-    let means = c.of.ensures w.vars w.ok.0 (sym c.if-not-all-named.ensures) in
+    let means = c.of.ensures w.vars w.ok.0 (sym c.if-not-all_named.ensures) in
     record {
       paid = (omega (arith, price_positive (length c.args.clause.now), c.price-price.ensures, c.if-price-self.false), c.if-price-self.false);
       inside = all_written (within w.vars) w.clauses w.count c.of.result there w.ok.2 means.inside;
@@ -30,7 +30,7 @@ returns c =
     let w = c.args.self.now in
     let v = c.keep.new.self in
     let there : w.count < length w.clauses = omega (arith, price_positive (length c.args.clause.now), c.price-price.ensures, c.if-price-self.false) in
-    let known = sym c.if-not-all-named.ensures in
+    let known = sym c.if-not-all_named.ensures in
     let means = c.of.ensures w.vars w.ok.0 known in
     let fits : price (length c.args.clause.now) ≤ w.room = omega arith in
     let same = allowed_alike w.vars v.vars (w.count + 1) v.count (set w.clauses w.count c.of.result) v.clauses c.keep.ensures.vars c.keep.ensures.count c.keep.ensures.clauses in

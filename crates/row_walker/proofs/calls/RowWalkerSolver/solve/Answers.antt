@@ -13,11 +13,11 @@ returns c =
     let w = c.args.self.now in
     let v = c.show.new.self in
     let a = c.args.assumed.now in
-    let found = c.first-row-found.result in
-    let known = sym c.if-not-all-named.ensures in
+    let found = c.first_row-found.result in
+    let known = sym c.if-not-all_named.ensures in
     let whole : w.count - 0 ≡ w.count = omega arith in
     let same = allowed_alike w.vars v.vars w.count v.count w.clauses v.clauses c.show.ensures.vars c.show.ensures.count c.show.ensures.clauses in
-    let walked = subst (λ (k : ℕ). Found w.vars (take k w.clauses) a found) whole c.first-row-found.ensures in
+    let walked = subst (λ (k : ℕ). Found w.vars (take k w.clauses) a found) whole c.first_row-found.ensures in
     let answer = found_answers (stands w) w.vars (take w.count w.clauses) a (λ _ h. h) (λ _ h. h) known found walked in
     record {
       refused = solve_accepted (stands w) a known;

@@ -23,7 +23,7 @@ returns-then-literal-lt0 c =
     let x = c.args.literal in
     let k = c.args.self in
     let same = to_z-of_z w32 x c.ranges.literal in
-    let bit = shifted x c.unsigned-abs.result (c.unsigned-abs.ensures.value ∙ ap nat_abs same) c.requires in
+    let bit = shifted x c.unsigned_abs.result (c.unsigned_abs.ensures.value ∙ ap nat_abs same) c.requires in
     let sign : lt_z x (pos 0) ≡ true = sym (ap (λ y. lt_z y (pos 0)) same) ∙ c.if-literal-lt0.true in
     let clause : ℕ → Clause = λ b. record { positive = k.positive; negative = bit_or k.negative b } in
     record {
@@ -36,7 +36,7 @@ returns-else-literal-lt0 c =
     let x = c.args.literal in
     let k = c.args.self in
     let same = to_z-of_z w32 x c.ranges.literal in
-    let bit = shifted x c.unsigned-abs.result (c.unsigned-abs.ensures.value ∙ ap nat_abs same) c.requires in
+    let bit = shifted x c.unsigned_abs.result (c.unsigned_abs.ensures.value ∙ ap nat_abs same) c.requires in
     let sign : lt_z x (pos 0) ≡ false = sym (ap (λ y. lt_z y (pos 0)) same) ∙ c.if-literal-lt0.false in
     let clause : ℕ → Clause = λ b. record { positive = bit_or k.positive b; negative = k.negative } in
     record {

@@ -7,6 +7,6 @@ use Rattle.scanner.proofs.name.Name.of.Goals as goal
 pub returns : goal.returns
 returns c =
     let w = c.args.word.now in
-    let copied = c.copy-from-slice.ensures.after in
-    ap (λ (n : List ℕ). Some n) (take_at c.copy-from-slice.new.self _ (length w) (ap length copied) ∙ copied)
-    ∙ sym (cond-true (is_name w) (Some w) None (le-leb (length w) 16 c.if-len-gt-NAME-BYTES.false))
+    let copied = c.copy_from_slice.ensures.after in
+    ap (λ (n : List ℕ). Some n) (take_at c.copy_from_slice.new.self _ (length w) (ap length copied) ∙ copied)
+    ∙ sym (cond-true (is_name w) (Some w) None (le-leb (length w) 16 c.if-len-gt-NAME_BYTES.false))

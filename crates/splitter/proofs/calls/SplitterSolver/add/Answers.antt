@@ -9,12 +9,12 @@ use Rattle.splitter.specs.Stands.{over}
 use Rattle.splitter.proofs.Splitting.{fresh_paid, split_only, split_each, split_sound}
 use Rattle.splitter.proofs.calls.SplitterSolver.add.Goals as goal
 
-pub add-in-threes-requires : goal.add-in-threes-requires
-add-in-threes-requires g c =
+pub add_in_threes-requires : goal.add_in_threes-requires
+add_in_threes-requires g c =
     let w = c.args.self.now in
     let xs = c.args.clause.now in
     let s = c.requires.1 in
-    let known = sym c.if-not-all-named.ensures in
+    let known = sym c.if-not-all_named.ensures in
     let left = c.if-price-self.false in
     let cost = c.price-price.ensures in
     record {
@@ -36,10 +36,10 @@ returns g c =
     let w = c.args.self.now in
     let xs = c.args.clause.now in
     let b = g.S.Solver.meaning w.below in
-    let n = g.S.Solver.meaning c.add-in-threes.new.below in
+    let n = g.S.Solver.meaning c.add_in_threes.new.below in
     let s = c.requires.1 in
-    let known : all_named w.vars xs ≡ true = sym c.if-not-all-named.ensures in
-    let split : Split b xs (w.vars + w.account.fresh) n = c.add-in-threes.ensures.split in
+    let known : all_named w.vars xs ≡ true = sym c.if-not-all_named.ensures in
+    let split : Split b xs (w.vars + w.account.fresh) n = c.add_in_threes.ensures.split in
     let cost = c.price-price.ensures in
     let left = c.if-price-self.false in
     let fits : price (length xs) ≤ w.account.room = omega (arith, left, cost) in
@@ -54,5 +54,5 @@ returns g c =
         room = omega (arith, c.charge.ensures.room, cost);
         shown = split.shown;
       };
-      sound = (c.add-in-threes.ensures.sound, split_sound b w.vars w.account.fresh w.account.room s xs known n split after.fresh after.room c.charge.ensures.fresh (omega (arith, c.charge.ensures.room, cost)));
+      sound = (c.add_in_threes.ensures.sound, split_sound b w.vars w.account.fresh w.account.room s xs known n split after.fresh after.room c.charge.ensures.fresh (omega (arith, c.charge.ensures.room, cost)));
     }

@@ -6,26 +6,26 @@ use Rattle.splitter.specs.Sizes.{full_over, sizes_over}
 use Rattle.splitter.specs.Stands.{over}
 use Rattle.splitter.proofs.calls.SplitterSolver.begin.Goals as goal
 
-pub begin-taken-requires : goal.begin-taken-requires
-begin-taken-requires g c =
+pub begin_taken-requires : goal.begin_taken-requires
+begin_taken-requires g c =
     let w = c.args.self.now in
     let m = g.S.Solver.meaning w.below in
     let some = c.capacity.ensures in
-    let full = c.full-room-full.ensures in
+    let full = c.full_room-full.ensures in
     let within = c.if-vars-capacity.false in
-    record { sound = c.requires.0; taken = begin_accepted m (c.args.vars + c.full-room-full.result) (omega arith) }
+    record { sound = c.requires.0; taken = begin_accepted m (c.args.vars + c.full_room-full.result) (omega arith) }
 
 pub returns : goal.returns
 returns g c =
     let w = c.args.self.now in
     let m = g.S.Solver.meaning w.below in
-    let n = g.S.Solver.meaning c.begin-taken.new.below in
+    let n = g.S.Solver.meaning c.begin_taken.new.below in
     let some = c.capacity.ensures in
     let within = c.if-vars-capacity.false in
-    let full = c.full-room-full.ensures in
+    let full = c.full_room-full.ensures in
     let none = c.of-self.ensures.fresh in
     let all = c.of-self.ensures.room in
-    let b : Begun m (c.args.vars + c.full-room-full.result) n = c.begin-taken.ensures.begun in
+    let b : Begun m (c.args.vars + c.full_room-full.result) n = c.begin_taken.ensures.begun in
     record {
       refused = begin_accepted (over m w.vars w.account.room) c.args.vars (omega arith);
       cases = record {
@@ -36,7 +36,7 @@ returns g c =
         shown = b.shown;
       };
       sound = (
-        c.begin-taken.ensures.sound,
+        c.begin_taken.ensures.sound,
         record {
           in_use = b.vars ∙ ap (λ k. c.args.vars + k) (full ∙ ap full_over (sym b.sizes));
           roomy = omega (arith, b.room, full, all);

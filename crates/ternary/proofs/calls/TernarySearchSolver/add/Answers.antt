@@ -14,11 +14,11 @@ returns c =
     let sound = c.requires in
     let cl = c.args.clause.now in
     let xs = w.clauses.now in
-    let same : c.store-clause.new.places ≡ triple_set xs (3 * w.count) cl = c.store-clause.ensures in
+    let same : c.store_clause.new.places ≡ triple_set xs (3 * w.count) cl = c.store_clause.ensures in
     let some-room : 1 ≤ w.room = search rules in
     let within : 3 * w.count + 3 ≤ length xs = omega (arith, sound.clauses_len, sound.counts, some-room) in
     let short : length cl ≤ 3 = omega (arith, c.if-clause-width.false, c.width.ensures) in
-    let known = sym c.if-not-all-named.ensures in
+    let known = sym c.if-not-all_named.ensures in
     let one : price (length cl) ≡ 1 = grind (arith, nat_tests) in
     record {
       refused = add_accepted (stands w) cl short known (omega (arith, one, some-room));

@@ -13,7 +13,7 @@ returns c =
     let t = c.search-found.new.self in
     let g = c.search-found.ensures.sound in
     let e = c.search-found.ensures.same in
-    let known = sym c.if-not-all-named.ensures in
+    let known = sym c.if-not-all_named.ensures in
     let size = λ (n : ℕ). let z : Sizes = record { capacity = n; width = 3; full = n } in z in
     record {
       refused = solve_accepted (stands w) c.args.assumed.now known;
@@ -29,7 +29,7 @@ returns c =
       };
       sound = record {
         clauses_len = g.clauses_len;
-        values_len = g.values-len;
+        values_len = g.values_len;
         trail_len = g.trail_len;
         decisions_len = g.decisions_len;
         counts = g.counts;

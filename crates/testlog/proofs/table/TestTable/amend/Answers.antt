@@ -21,8 +21,8 @@ returns-then-test-len c =
           record { refused = sym (ap result_err nowhere); after = ap tests_of w.self-is ∙ sym (ap (kept ts) nowhere); change = tt }
       | then-test-len-via-else-test-len+then-not-amend w ↦
           let k = c.args.test in
-          let t = w.index-mut.result.now in
-          let here = held_at (vec_items v) k (vec_len v) t v.ok.0 (omega (arith, w.if-test-len.false, c.len.ensures)) w.index-mut.ensures.value in
+          let t = w.index_mut.result.now in
+          let here = held_at (vec_items v) k (vec_len v) t v.ok.0 (omega (arith, w.if-test-len.false, c.len.ensures)) w.index_mut.ensures.value in
           let no_such = amended_no_output ts k c.args.output c.args.value c.in-Some.reading (test_of t) c.in-Some.ensures here w.if-not-amend.ensures.value in
           record {
             refused = sym (ap result_err no_such);
@@ -41,8 +41,8 @@ returns c =
     let v = c.args.self.now.tests in
     let ts = tests_of c.args.self.now in
     let k = c.args.test in
-    let t = c.index-mut.result.now in
-    let here = held_at (vec_items v) k (vec_len v) t v.ok.0 (omega (arith, c.if-test-len.false, c.len.ensures)) c.index-mut.ensures.value in
+    let t = c.index_mut.result.now in
+    let here = held_at (vec_items v) k (vec_len v) t v.ok.0 (omega (arith, c.if-test-len.false, c.len.ensures)) c.index_mut.ensures.value in
     let changed = amended_to ts k c.args.output c.args.value c.in-Some.reading (test_of t) c.in-Some.ensures here c.if-not-amend.ensures.value in
     let held : map test_of (set (vec_items v) k c.amend.new.self) ≡ set ts k (with_reading (test_of t) c.args.output c.in-Some.reading) =
     map-set test_of (vec_items v) k c.amend.new.self ∙ ap (set ts k) c.if-not-amend.ensures.after in

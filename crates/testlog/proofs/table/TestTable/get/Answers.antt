@@ -6,5 +6,5 @@ use Rattle.testlog.proofs.table.TestTable.get.Goals as goal
 
 pub returns : goal.returns
 returns c =
-    got c.tests.result.now c.args.test c.get.result c.get.ensures.finds.3
+    got c.tests.result.now c.args.test c.get.result c.get.ensures.lookup.3
     ∙ ap (λ (l : List Test). slice_get l c.args.test) c.tests.ensures

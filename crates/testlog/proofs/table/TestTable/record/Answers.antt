@@ -21,25 +21,25 @@ returns-then-len-ge-TESTS c =
     let full = recorded_full (circuit_of c.args.circuit.now) ts c.args.bytes.now c.len.result many (omega (arith, c.if-len-ge-TESTS.true)) in
     record { refused = sym (ap result_err full); after = sym (ap (kept ts) full); change = tt }
 
-pub returns-in-err-test : goal.returns-in-err-test
-returns-in-err-test c =
+pub returns-in_err-test : goal.returns-in_err-test
+returns-in_err-test c =
     let v = c.args.self.now.tests in
     let ts = tests_of c.args.self.now in
     let many : c.len.result ≡ length ts = c.len.ensures ∙ v.ok.0 ∙ sym (length-map (vec_items v) test_of) in
-    let bad = recorded_joined (circuit_of c.args.circuit.now) ts c.args.bytes.now c.len.result _ many (omega (arith, c.if-len-ge-TESTS.false)) c.in-err-test.ensures in
-    let p = err_from_is_err_and c.from-residual.result c.from-residual.ensures.1 in
-    record { refused = ap (λ r. option_map refusal_of (result_err r)) p.1 ∙ ap (λ (f : RecordFault). result_err (joined_by ts (Err (refusal_of f)))) p.2 ∙ sym (ap result_err bad); after = sym (ap (kept ts) bad); change = IfOk-from_err c.from-residual.result _ (ap is_err p.1) }
+    let bad = recorded_joined (circuit_of c.args.circuit.now) ts c.args.bytes.now c.len.result _ many (omega (arith, c.if-len-ge-TESTS.false)) c.in_err-test.ensures in
+    let p = err_from_is_err_and c.from_residual.result c.from_residual.ensures.1 in
+    record { refused = ap (λ r. option_map refusal_of (result_err r)) p.1 ∙ ap (λ (f : RecordFault). result_err (joined_by ts (Err (refusal_of f)))) p.2 ∙ sym (ap result_err bad); after = sym (ap (kept ts) bad); change = IfOk-from_err c.from_residual.result _ (ap is_err p.1) }
 
 pub returns : goal.returns
 returns c =
     let v = c.args.self.now.tests in
     let ts = tests_of c.args.self.now in
     let many : c.len.result ≡ length ts = c.len.ensures ∙ v.ok.0 ∙ sym (length-map (vec_items v) test_of) in
-    let good = recorded_joined (circuit_of c.args.circuit.now) ts c.args.bytes.now c.len.result _ many (omega (arith, c.if-len-ge-TESTS.false)) c.in-ok-test.ensures in
-    let last = ap (map test_of) c.push-reserved.ensures.items ∙ map_push test_of (vec_items v) c.in-ok-test.test in
-    let law = taken_is_written (circuit_of c.args.circuit.now) c.args.bytes.now (test_of c.in-ok-test.test) (all_bytes c.args.bytes.now (λ i. (c.type-inv.bytes i).fits)) (sym c.in-ok-test.ensures) in
+    let good = recorded_joined (circuit_of c.args.circuit.now) ts c.args.bytes.now c.len.result _ many (omega (arith, c.if-len-ge-TESTS.false)) c.in_ok-test.ensures in
+    let last = ap (map test_of) c.push_reserved.ensures.items ∙ map_push test_of (vec_items v) c.in_ok-test.test in
+    let law = taken_is_written (circuit_of c.args.circuit.now) c.args.bytes.now (test_of c.in_ok-test.test) (all_bytes c.args.bytes.now (λ i. (c.type_inv.bytes i).fits)) (sym c.in_ok-test.ensures) in
     record {
       refused = sym (ap result_err good);
       after = last ∙ sym (ap (kept ts) good);
-      change = record { test = test_of c.in-ok-test.test; last = last; fits = law.0; as_written = law.1 };
+      change = record { test = test_of c.in_ok-test.test; last = last; fits = law.0; as_written = law.1 };
     }
