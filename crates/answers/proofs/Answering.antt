@@ -1,5 +1,5 @@
 -- A solver's answers, one after another, while the lowest set is looked for.
-use Rattle.std.proofs.Common.{◌≡◌, ℕ, zero, suc, ◌+◌, ◌-◌, ◌*◌, ◌<◌, ◌≤◌, Bool, true, false, cond, not, ◌&&◌, ◌⊎◌, List, [], ◌∷◌, ◌++◌, length, get_or, take, set, ℤ, pos, negsuc, Some, None, Option, sym, refl, ap, ◌∙◌, subst, inl, inr, ⊎_elim, append_assoc, append-nil, le_of_suc-le-suc, add-zero, add-one, arith, length-append, get_or-set_other, get_or-set_same}
+use Rattle.std.proofs.Common.{◌≡◌, ℕ, zero, suc, ◌+◌, ◌-◌, ◌*◌, ◌<◌, ◌≤◌, Bool, true, false, cond, not, List, [], ◌∷◌, ◌++◌, length, get_or, take, set, ℤ, pos, Some, None, Option, sym, refl, ap, ◌∙◌, subst, ⊎_elim, le_of_suc-le-suc, add-zero, add-one, arith, length-append, get_or-set_other, get_or-set_same}
 use mathlib.Core.Bool.{false≢true}
 use Rattle.std.proofs.lemmas.List.{take_more_set, length-take-le}
 use Rattle.std.proofs.lemmas.Bool.{and_from, and_parts, not-true, cases_Bool, cases_eq, cases_lt, le-leb, lt-ltb}
@@ -9,9 +9,9 @@ use Rattle.solver.specs.Lists.{all}
 use Rattle.solver.specs.Rows.{Row, holds, named, all_named, all_true}
 use Rattle.solver.specs.Meaning.{Meaning, Kept, Solved, Answered}
 use Rattle.solver.proofs.Lists.{all_append, all_at}
-use Rattle.cnf_theory.specs.Literals.{positive, negative, signed, integer}
+use Rattle.cnf_theory.specs.Literals.{negative, signed, integer}
 use Rattle.cnf_theory.specs.Variables.{count_variable}
-use Rattle.answers.specs.Loaded.{SomeOff, NeverOff, OffAnswer, Low, Found}
+use Rattle.answers.specs.Loaded.{SomeOff, NeverOff, OffAnswer, Found}
 use Rattle.answers.specs.Assumed.{sign, decided, Tried, Assumed}
 
 pub kept_none : (m : Meaning) → Kept m m

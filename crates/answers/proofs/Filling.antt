@@ -1,5 +1,5 @@
 -- From clauses that were handed over to a solver that holds them.
-use Rattle.std.proofs.Common.{◌≡◌, ℕ, zero, suc, ◌+◌, ◌≤◌, max, Bool, true, ◌||◌, List, [], ◌∷◌, ◌++◌, map, length, ℤ, sym, refl, ap, ◌∙◌, subst, arith}
+use Rattle.std.proofs.Common.{◌≡◌, ℕ, zero, suc, ◌+◌, ◌≤◌, max, true, ◌||◌, List, [], ◌∷◌, ◌++◌, map, length, ℤ, sym, refl, ap, ◌∙◌, subst, arith}
 use Rattle.std.specs.List.{AllByRecursion as All}
 use Rattle.std.proofs.lemmas.List.{length-map}
 use Rattle.std.proofs.lemmas.Bool.{and_from, and_parts, lt-ltb, le-leb}
@@ -8,7 +8,7 @@ use Rattle.solver.specs.Rows.{Row, holds, some_true, named, all_named}
 use Rattle.solver.specs.Meaning.{Meaning, Sizes, Begun, Kept}
 use Rattle.cnf_theory.specs.Literals.{Literal, positive, negative, Clause, true_in, some_true_in, Holds, variable_of, integer, integers}
 use Rattle.cnf_theory.specs.Sizes.{price, prices, longest}
-use Rattle.answers.specs.Fed.{every_true, fitting, Fits, Narrowed, Fed}
+use Rattle.answers.specs.Fed.{every_true, fitting, Narrowed, Fed}
 use Rattle.answers.specs.FedLaws.{fed_both}
 use Rattle.answers.specs.Loaded.{Filled, Loaded, Fewest}
 

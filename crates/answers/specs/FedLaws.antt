@@ -3,7 +3,7 @@ use Rattle.std.specs.Prelude.{◌≡◌, ℕ, ◌+◌, ◌≤◌, true, List, []
 use Rattle.std.proofs.Common.{sym, ap, ◌∙◌, zero-add, add-zero, add_assoc, arith}
 use Rattle.std.proofs.lemmas.Bool.{and_from, and_parts}
 use Rattle.solver.specs.Lists.{all}
-use Rattle.solver.specs.Rows.{Row, some_true}
+use Rattle.solver.specs.Rows.{some_true}
 use Rattle.solver.specs.Meaning.{Meaning, Sizes}
 use Rattle.solver.proofs.Lists.{all_append}
 use Rattle.cnf_theory.specs.Sizes.{price, prices}

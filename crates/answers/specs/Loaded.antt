@@ -12,7 +12,7 @@ use Rattle.std.specs.Prelude.{◌≡◌, ℕ, suc, ◌+◌, ◌<◌, ◌≤◌, 
 use Rattle.diagnosis.specs.Marked.{marked}
 use Rattle.solver.specs.Rows.{Row}
 use Rattle.solver.specs.Meaning.{Meaning, Sizes}
-use Rattle.cnf_theory.specs.Literals.{Clause, Holds, integers}
+use Rattle.cnf_theory.specs.Literals.{Clause, Holds}
 use Rattle.cnf_theory.specs.Variables.{count_variable}
 use Rattle.cnf_theory.specs.Sizes.{prices}
 use Rattle.answers.specs.Fed.{every_true}

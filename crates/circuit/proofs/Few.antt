@@ -1,5 +1,5 @@
 -- There are at most eight operands.
-use Rattle.std.proofs.Common.{ℕ, ◌≤◌, length, arith}
+use Rattle.std.proofs.Common.{◌≤◌, length, arith}
 use Rattle.std.proofs.lemmas.List.{length-take-le}
 use Rattle.circuit.specs.declared.operands.Operands.{Operands}
 use Rattle.circuit.specs.Listed.{listed}

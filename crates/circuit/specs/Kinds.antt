@@ -1,7 +1,7 @@
 -- The kinds of gates.
 --   takes   whether a kind takes so many operands
 --   gives   what a gate of a kind gives for its operands' values
-use Rattle.std.specs.Prelude.{ℕ, Bool, true, false, cond, not, ◌&&◌, List, [], ◌∷◌, ◌==◌, nat_le}
+use Rattle.std.specs.Prelude.{ℕ, Bool, false, cond, not, ◌&&◌, List, [], ◌∷◌, ◌==◌, nat_le}
 use Rattle.circuit.specs.declared.kind.Kind.{Kind}
 use Rattle.circuit.specs.declared.kind.Kind.TheVariants.{And, Or, Nand, Nor, Xor, Xnor, Not}
 use Rattle.circuit.specs.Lists.{all, any}

@@ -1,7 +1,7 @@
 -- When two signals are the same.
 --   signal_eq           both are inputs or both are gates, with the same number
 --   signal_eq_decides   that tells whether they are equal
-use Rattle.std.specs.Prelude.{◌≡◌, ℕ, Bool, true, false, ◌==◌, Decides, refl}
+use Rattle.std.specs.Prelude.{◌≡◌, ℕ, Bool, false, ◌==◌, Decides}
 use Rattle.std.specs.Cmp.{unsigned_Decides}
 use Rattle.std.proofs.Common.{ap}
 use Rattle.circuit.specs.declared.gate.Signal.{Signal}

@@ -1,5 +1,5 @@
 -- How many clauses the counter has.
-use Rattle.std.proofs.Common.{◌≡◌, ℕ, zero, suc, ◌+◌, ◌-◌, ◌*◌, ◌<◌, ◌≤◌, List, [], ◌∷◌, ◌++◌, length, sym, refl, ap, ◌∙◌, suc-mul, arith, length-append}
+use Rattle.std.proofs.Common.{◌≡◌, ℕ, zero, suc, ◌+◌, ◌*◌, ◌≤◌, List, ◌++◌, length, refl, ap, ◌∙◌, suc-mul, arith, length-append}
 use Rattle.std.specs.List.{flat_map}
 use Rattle.cnf_theory.specs.Literals.{Clause}
 use Rattle.cnf_theory.specs.Counter.{from, carry, step, count_at, counter}

@@ -1,16 +1,15 @@
 -- The tally of a formula that is written counts all of it: no number is too large.
-use Rattle.std.proofs.Common.{◌≡◌, ℕ, ◌+◌, ◌*◌, ◌^◌, ◌<◌, ◌≤◌, max, List, [], ◌∷◌, map, length, ℤ, vec_items, vec_len, sym, refl, ap, ◌∙◌, arith}
+use Rattle.std.proofs.Common.{◌≡◌, ℕ, ◌+◌, ◌^◌, ◌<◌, ◌≤◌, max, List, [], ◌∷◌, map, length, vec_items, vec_len, sym, refl, ◌∙◌, arith}
 use Rattle.std.specs.List.{AllByRecursion as All}
 use Rattle.std.proofs.lemmas.List.{length-map}
 use Rattle.circuit.specs.Circuits.{Circuit, Sound}
-use Rattle.circuit.specs.Tests.{Test}
 use Rattle.testlog.specs.declared.test.Test.{Test as HeldTest}
 use Rattle.testlog.specs.declared.table.TestTable.{TestTable}
 use Rattle.testlog.specs.Held.{test_of, tests_of}
-use Rattle.cnf_theory.specs.Literals.{Literal, Clause, integer, integers}
+use Rattle.cnf_theory.specs.Literals.{Clause, integer, integers}
 use Rattle.cnf_theory.specs.Formula.{formula}
 use Rattle.cnf_theory.specs.Sizes.{price, prices, longest}
-use Rattle.cnf_theory.proofs.Lengths.{Short, FewInputs, few_clauses, prices_few, nine_at_most}
+use Rattle.cnf_theory.proofs.Lengths.{FewInputs, few_clauses, prices_few, nine_at_most}
 use Rattle.cnf.specs.Tallied.{Tallied, TallyOf}
 use Rattle.cnf.specs.declared.tally.Tally.{Tally}
 use Rattle.cnf.proofs.Pieces.{integers_length}

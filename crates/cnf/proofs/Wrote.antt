@@ -1,6 +1,5 @@
 -- One piece of the walk after another.
-use Rattle.std.proofs.Common.{◌≡◌, ℕ, zero, suc, ◌+◌, ◌-◌, ◌*◌, ◌<◌, ◌≤◌, Bool, true, false, List, [], ◌∷◌, ◌++◌, map, length, ℤ, sym, refl, ap, ◌∙◌, subst, append_assoc, append-nil, add-zero, add-one, arith}
-use mathlib.Core.List.{map-append}
+use Rattle.std.proofs.Common.{◌≡◌, ℕ, zero, suc, ◌+◌, List, [], ◌∷◌, ◌++◌, map, ℤ, sym, refl, ap, ◌∙◌, subst, append_assoc, append-nil, add-zero, add-one, arith}
 use Rattle.std.specs.List.{flat_map}
 use Rattle.cnf_theory.specs.Literals.{Literal, Clause, integer, integers}
 use Rattle.cnf_theory.specs.Counter.{from}

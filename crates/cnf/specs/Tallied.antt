@@ -1,7 +1,7 @@
 -- What a tally says of the clauses that it took.
 --   Tallied   a tally after these clauses, from what it was before; as far as its numbers go
 --   TallyOf   the tally of a list of clauses: how many, the longest, and their prices
-use Rattle.std.specs.Prelude.{◌≡◌, ℕ, ◌+◌, ◌^◌, ◌<◌, max, List, length, ℤ}
+use Rattle.std.specs.Prelude.{◌≡◌, ◌+◌, ◌^◌, ◌<◌, max, List, length, ℤ}
 use Rattle.cnf_theory.specs.Sizes.{prices, longest}
 use Rattle.cnf.specs.declared.tally.Tally.{Tally}
 

@@ -1,5 +1,5 @@
 -- Tallies of no clause, and of some clauses after others: what a sink owes.
-use Rattle.std.specs.Prelude.{◌≡◌, ℕ, ◌+◌, max, List, [], ◌∷◌, ◌++◌, length, ℤ}
+use Rattle.std.specs.Prelude.{◌≡◌, ◌+◌, max, List, [], ◌∷◌, ◌++◌, length, ℤ}
 use Rattle.std.proofs.Common.{sym, ap, ◌∙◌, zero-add, add_assoc, arith, length-append}
 use Rattle.cnf_theory.specs.Sizes.{price, prices, longest}
 use Rattle.cnf.specs.Tallied.{Tallied}

@@ -1,11 +1,11 @@
 -- The counter's clauses hold just where the counts are reached, and its limit where few enough gates are marked.
-use Rattle.std.proofs.Common.{◌≡◌, ℕ, zero, suc, ◌+◌, ◌<◌, ◌≤◌, Bool, true, false, cond, not, ◌||◌, leb, List, [], ◌∷◌, ◌++◌, sym, refl, ap, ◌∙◌, subst, ⊎_elim, le_trans, arith}
+use Rattle.std.proofs.Common.{◌≡◌, ℕ, zero, suc, ◌<◌, ◌≤◌, Bool, true, false, cond, not, ◌||◌, leb, ◌++◌, sym, refl, ap, ◌∙◌, ⊎_elim, le_trans, arith}
 use mathlib.Core.Bool.{false≢true}
 use Rattle.std.proofs.lemmas.Bool.{cases_lt, le-leb, leb-true}
 use Rattle.diagnosis.specs.Marked.{count}
-use Rattle.cnf_theory.specs.Literals.{Row, Clause, Holds}
+use Rattle.cnf_theory.specs.Literals.{Row, Holds}
 use Rattle.cnf_theory.specs.Variables.{count_variable}
-use Rattle.cnf_theory.specs.Counter.{from, carry, step, count_at, counter, limit}
+use Rattle.cnf_theory.specs.Counter.{carry, step, count_at, counter, limit}
 use Rattle.cnf_theory.proofs.Clauses.{holds_at, holds_each, implies, implies_both, from_implies, from_implies_both}
 
 -- only the marks of the gates that are there count

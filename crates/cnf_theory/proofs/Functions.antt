@@ -1,5 +1,5 @@
 -- The clauses of a gate's function hold just where the gate's variable has the value that its kind gives; and so for the selection.
-use Rattle.std.proofs.Common.{◌≡◌, ℕ, zero, suc, Bool, true, false, cond, not, ◌&&◌, ◌||◌, ◌↔◌, List, [], ◌∷◌, ◌++◌, map, length, sym, refl, ap, ◌∙◌, subst, arith}
+use Rattle.std.proofs.Common.{◌≡◌, ℕ, Bool, true, false, cond, not, ◌&&◌, ◌||◌, ◌↔◌, List, [], ◌∷◌, ◌++◌, map, length, sym, refl, ap, ◌∙◌, subst, arith}
 use mathlib.Core.Bool.{false≢true}
 use Rattle.std.specs.List.{flat_map}
 use Rattle.std.proofs.lemmas.Bool.{eqb-true}
@@ -7,8 +7,8 @@ use Rattle.circuit.specs.declared.kind.Kind.{Kind}
 use Rattle.circuit.specs.declared.kind.Kind.TheVariants.{And, Or, Nand, Nor, Xor, Xnor, Not}
 use Rattle.circuit.specs.Lists.{all, any}
 use Rattle.circuit.specs.Kinds.{takes, gives}
-use Rattle.cnf_theory.specs.Literals.{Row, Literal, Clause, signed, true_in, some_true_in, Holds}
-use Rattle.cnf_theory.specs.Gates.{conjunction, rows, excluding, tabled, function, selection}
+use Rattle.cnf_theory.specs.Literals.{Row, Clause, signed, true_in, some_true_in, Holds}
+use Rattle.cnf_theory.specs.Gates.{conjunction, rows, excluding, tabled, function}
 use Rattle.cnf_theory.proofs.Clauses.{holds_left, holds_right, holds_both, sign_turned}
 
 -- ── a conjunction of literals ──

@@ -1,5 +1,5 @@
 -- How long the formula's clauses are, and how many.
-use Rattle.std.proofs.Common.{◌≡◌, ℕ, zero, suc, ◌+◌, ◌-◌, ◌*◌, ◌^◌, ◌<◌, ◌≤◌, max, Bool, true, false, cond, not, ◌&&◌, eqb, leb, List, [], ◌∷◌, ◌++◌, map, length, Some, None, Option, sym, refl, ap, ◌∙◌, ⊎_elim, suc-mul, mul-le-mul, arith, length-append}
+use Rattle.std.proofs.Common.{◌≡◌, ℕ, zero, suc, ◌+◌, ◌-◌, ◌*◌, ◌≤◌, Bool, true, false, not, leb, List, [], ◌∷◌, ◌++◌, map, length, Some, None, Option, ap, ⊎_elim, suc-mul, mul-le-mul, arith, length-append}
 use Rattle.std.specs.List.{flat_map, AllByRecursion as All}
 use Rattle.std.proofs.lemmas.List.{length-map}
 use Rattle.std.proofs.lemmas.Bool.{and_parts, leb-true, eqb-true, cases_Bool, cond-true, cond-false}
@@ -10,12 +10,12 @@ use Rattle.circuit.specs.Kinds.{takes, gives, several}
 use Rattle.circuit.specs.Circuits.{Gate, Circuit, wired, Sound}
 use Rattle.circuit.specs.Tests.{Test}
 use Rattle.cnf_theory.specs.Literals.{Clause, signed}
-use Rattle.cnf_theory.specs.Variables.{base, computed_variable, forced_variable, value_variable, signal_variable}
+use Rattle.cnf_theory.specs.Variables.{base, computed_variable, forced_variable, value_variable}
 use Rattle.cnf_theory.specs.Counter.{from, carry, step, count_at, counter, limit}
-use Rattle.cnf_theory.specs.Gates.{conjunction, rows, excluding, function, selection, gate_clauses}
+use Rattle.cnf_theory.specs.Gates.{conjunction, rows, excluding, function, selection}
 use Rattle.cnf_theory.specs.Formula.{input_clauses, gates_clauses, measured_clauses, output_clauses, test_clauses, tests_clauses, formula}
 use Rattle.cnf_theory.specs.FormulaLaws.{NineAtMost}
-use Rattle.cnf_theory.specs.Sizes.{price, prices, longest}
+use Rattle.cnf_theory.specs.Sizes.{price, prices}
 use Rattle.cnf_theory.proofs.TestSound.{gate_takes, takes_mapped}
 
 abbrev pub Short : Clause → Type 0

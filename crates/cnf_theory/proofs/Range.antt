@@ -1,5 +1,5 @@
 -- Every variable of the formula is one of 1 to its number of variables.
-use Rattle.std.proofs.Common.{◌≡◌, ℕ, zero, suc, ◌+◌, ◌*◌, ◌<◌, ◌≤◌, Bool, true, false, not, leb, List, [], ◌∷◌, ◌++◌, map, length, Some, None, Option, sym, refl, ap, ◌∙◌, subst, mul-le-mul_right, suc-mul, mul-suc, arith}
+use Rattle.std.proofs.Common.{◌≡◌, ℕ, zero, suc, ◌+◌, ◌*◌, ◌<◌, ◌≤◌, Bool, true, false, not, leb, List, [], ◌∷◌, ◌++◌, map, length, Some, None, Option, sym, subst, mul-le-mul_right, suc-mul, mul-suc, arith}
 use lib.Arith.{digits_lt}
 use Rattle.std.specs.List.{flat_map, AllByRecursion as All}
 use Rattle.std.proofs.lemmas.Bool.{and_parts, leb-true}
@@ -11,11 +11,11 @@ use Rattle.circuit.specs.Lists.{all}
 use Rattle.circuit.specs.Kinds.{gives}
 use Rattle.circuit.specs.Circuits.{Gate, Circuit, there, wired, Sound}
 use Rattle.circuit.specs.Tests.{Test, FitsTest}
-use Rattle.cnf_theory.specs.Literals.{Literal, positive, negative, Clause, signed, variable_of}
-use Rattle.cnf_theory.specs.Variables.{count_variable, base, gate_variable, computed_variable, forced_variable, value_variable, signal_variable, variables}
+use Rattle.cnf_theory.specs.Literals.{Literal, Clause, signed, variable_of}
+use Rattle.cnf_theory.specs.Variables.{count_variable, base, gate_variable, computed_variable, signal_variable, variables}
 use Rattle.cnf_theory.specs.Counter.{from, carry, step, count_at, counter, limit}
-use Rattle.cnf_theory.specs.Gates.{conjunction, rows, excluding, tabled, function, selection, gate_clauses}
-use Rattle.cnf_theory.specs.Formula.{input_clauses, gates_clauses, output_clauses, test_clauses, tests_clauses, formula}
+use Rattle.cnf_theory.specs.Gates.{conjunction, rows, excluding, function, gate_clauses}
+use Rattle.cnf_theory.specs.Formula.{input_clauses, gates_clauses, output_clauses, test_clauses, tests_clauses}
 use Rattle.cnf_theory.specs.FormulaLaws.{WithinVariables}
 use Rattle.cnf_theory.proofs.TestSound.{gate_takes}
 

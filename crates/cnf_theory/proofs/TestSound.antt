@@ -1,6 +1,6 @@
 -- A row in which a test's clauses hold has forced values that bring out the test.
-use Rattle.std.proofs.Common.{◌≡◌, ℕ, zero, suc, ◌+◌, ◌*◌, ◌<◌, ◌≤◌, Bool, true, false, cond, not, ◌&&◌, ◌||◌, eqb, leb, List, [], ◌∷◌, ◌++◌, map, length, get_or, Some, None, Option, sym, refl, ap, ◌∙◌, subst, ⊎_elim, add-zero, add-suc, suc-add, arith}
-use mathlib.Core.Bool.{beq, false≢true}
+use Rattle.std.proofs.Common.{◌≡◌, ℕ, zero, suc, ◌+◌, ◌<◌, Bool, true, false, cond, leb, List, [], ◌∷◌, ◌++◌, map, length, get_or, Some, None, Option, sym, refl, ap, ◌∙◌, subst, ⊎_elim, add-zero, add-suc, suc-add, arith}
+use mathlib.Core.Bool.{beq}
 use Rattle.std.proofs.lemmas.List.{get_or_append_left, get_or_push, length_push, length-map}
 use Rattle.std.proofs.lemmas.Bool.{cases_lt, and_parts, and_from, leb-true, eq-eqb}
 use Rattle.circuit.specs.declared.gate.Signal.{Signal}
@@ -9,9 +9,9 @@ use Rattle.circuit.specs.Lists.{all}
 use Rattle.circuit.specs.Kinds.{takes, gives}
 use Rattle.circuit.specs.Circuits.{Gate, Circuit, there, fits, wired}
 use Rattle.circuit.specs.Tests.{Test, FitsTest}
-use Rattle.diagnosis.specs.Explains.{value, computed, gate_value, simulate, values, agrees, agree, brings_out, Explains}
-use Rattle.cnf_theory.specs.Literals.{Row, Clause, Holds}
-use Rattle.cnf_theory.specs.Variables.{gate_variable, computed_variable, forced_variable, value_variable, signal_variable}
+use Rattle.diagnosis.specs.Explains.{value, gate_value, simulate, values, agree, brings_out, Explains}
+use Rattle.cnf_theory.specs.Literals.{Row, Holds}
+use Rattle.cnf_theory.specs.Variables.{computed_variable, forced_variable, value_variable, signal_variable}
 use Rattle.cnf_theory.specs.Gates.{function, selection, gate_clauses}
 use Rattle.cnf_theory.specs.Formula.{input_clauses, gates_clauses, output_clauses, test_clauses}
 use Rattle.cnf_theory.proofs.Clauses.{holds_left, holds_right, unit_value}

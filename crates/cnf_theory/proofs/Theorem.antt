@@ -1,10 +1,10 @@
 -- The formula says that at most N gates are marked and explain every test.
-use Rattle.std.proofs.Common.{◌≡◌, ℕ, zero, suc, ◌+◌, ◌*◌, ◌<◌, ◌≤◌, Bool, true, false, cond, not, ◌||◌, leb, ◌↔◌, List, [], ◌∷◌, ◌++◌, map, length, get_or, sym, refl, ap, ◌∙◌, subst, add-zero, add-suc, suc-add, arith}
+use Rattle.std.proofs.Common.{◌≡◌, ℕ, zero, suc, ◌+◌, ◌<◌, ◌≤◌, Bool, false, leb, List, [], ◌∷◌, ◌++◌, map, length, get_or, sym, refl, ap, ◌∙◌, subst, add-zero, add-suc, suc-add, arith}
 use Rattle.std.specs.List.{AllByRecursion as All}
 use Rattle.std.proofs.lemmas.Bool.{lt-leb}
 use Rattle.circuit.specs.Circuits.{Circuit, Sound}
 use Rattle.circuit.specs.Tests.{Test, FitsTest}
-use Rattle.diagnosis.specs.Explains.{computed, values, Explains, ExplainsCase}
+use Rattle.diagnosis.specs.Explains.{computed, values, ExplainsCase}
 use Rattle.diagnosis.specs.Marked.{count}
 use Rattle.diagnosis.proofs.Marked.{explains_same}
 use Rattle.cnf_theory.specs.Literals.{Row, Holds}

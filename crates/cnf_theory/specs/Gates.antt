@@ -12,7 +12,7 @@ use Rattle.circuit.specs.declared.kind.Kind.{Kind}
 use Rattle.circuit.specs.declared.kind.Kind.TheVariants.{And, Or, Nand, Nor, Xor, Xnor, Not}
 use Rattle.circuit.specs.Kinds.{gives}
 use Rattle.circuit.specs.Circuits.{Gate}
-use Rattle.cnf_theory.specs.Literals.{Literal, positive, negative, signed, Clause}
+use Rattle.cnf_theory.specs.Literals.{positive, negative, signed, Clause}
 use Rattle.cnf_theory.specs.Variables.{computed_variable, forced_variable, value_variable, signal_variable}
 
 -- where x is l's literal and y an operand's: (-x, y) for each operand, then x with all the -y

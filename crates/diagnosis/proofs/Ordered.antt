@@ -1,5 +1,5 @@
 -- The order of sets is strict, so that a list in order is fixed by what stands in it.
-use Rattle.std.proofs.Common.{◌≡◌, ℕ, suc, Bool, true, false, cond, ◌⊎◌, List, [], ◌∷◌, ◌++◌, map, length, filter, sym, refl, ap, ◌∙◌, subst, inl, inr, ⊎_elim, arith}
+use Rattle.std.proofs.Common.{◌≡◌, ℕ, suc, Bool, true, false, cond, List, [], ◌∷◌, ◌++◌, map, filter, sym, refl, ap, ◌∙◌, subst, inl, inr, ⊎_elim, arith}
 use Rattle.diagnosis.specs.Order.{Lower, Before, In, InOrder}
 use Rattle.diagnosis.proofs.Members.{in_back, in_either, from_map, from_kept}
 

@@ -3,7 +3,7 @@
 use Rattle.std.specs.Prelude.{true, false, [], ◌∷◌, Some}
 use Rattle.circuit.specs.declared.kind.Kind.TheVariants.{And, Or, Not}
 use Rattle.circuit.specs.declared.gate.Signal.TheVariants as signal
-use Rattle.circuit.specs.Circuits.{Gate, Circuit}
+use Rattle.circuit.specs.Circuits.{Circuit}
 use Rattle.circuit.specs.Tests.{Test}
 
 abbrev pub P : Circuit

@@ -1,11 +1,11 @@
 -- From the clause that was picked to the line.
-use Rattle.std.proofs.Common.{◌≡◌, ℕ, zero, suc, ◌+◌, ◌*◌, ◌^◌, ◌<◌, ◌≤◌, Bool, true, false, List, [], ◌∷◌, ◌++◌, map, length, get_or, take, drop, set, ℤ, Some, None, decimal, Option, sym, refl, ap, ◌∙◌, subst, ⊎_elim, arith, length-append, drop-cons, take-suc}
+use Rattle.std.proofs.Common.{◌≡◌, ℕ, zero, suc, ◌+◌, ◌^◌, ◌<◌, ◌≤◌, false, List, [], ◌∷◌, ◌++◌, map, length, get_or, take, drop, set, Some, None, decimal, sym, refl, ap, ◌∙◌, ⊎_elim, arith, length-append, drop-cons}
 use Rattle.std.specs.List.{flat_map, slice_get, AllByRecursion as All}
 use Rattle.std.proofs.lemmas.List.{length-map, set_at, take_more, length-take-le}
 use Rattle.std.proofs.lemmas.Bool.{cases_lt, both_ways}
 use Rattle.std.specs.Fmt.{signed_decimal}
 use Rattle.std.proofs.lemmas.Fmt.{length-decimal-le}
-use Rattle.cnf_theory.specs.Literals.{Literal, Clause, integer, integers}
+use Rattle.cnf_theory.specs.Literals.{Clause, integer, integers}
 use Rattle.cnf_theory.specs.Dimacs.{word, clause_line, head_line}
 use Rattle.cnf_theory.proofs.Lengths.{Short}
 use Rattle.dimacs.specs.Texts.{words_of}

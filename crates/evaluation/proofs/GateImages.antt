@@ -1,7 +1,7 @@
 -- The image of a gate's function: every bit that its operands' bits give, and no other.
 use Rattle.std.proofs.Common.{◌≡◌, Bool, true, false, List, [], ◌∷◌, sym, refl, ◌∙◌, subst, ⊎_elim}
 use Rattle.std.proofs.lemmas.Bool.{or_cases}
-use Rattle.signal_value.specs.Possible.{Possible, only, both, includes, either}
+use Rattle.signal_value.specs.Possible.{Possible, only, both, includes}
 use Rattle.signal_value.proofs.Included.{beq_refl, beq_same, includes_either, either_left, either_right}
 use Rattle.evaluation.specs.Gates.{image_of, Among}
 use Rattle.evaluation.specs.EvaluationLaws.{GateLaw}

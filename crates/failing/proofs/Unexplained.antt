@@ -1,5 +1,5 @@
 -- A test is missed exactly if the empty set does not explain it: where nothing is marked, forced values have no effect.
-use Rattle.std.proofs.Common.{true, false, not, []}
+use Rattle.std.proofs.Common.{false, []}
 use mathlib.Core.Bool.{false≢true}
 use Rattle.std.proofs.lemmas.Bool.{not-false, not_from_true}
 use Rattle.diagnosis.specs.Sets.{member}

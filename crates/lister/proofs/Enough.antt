@@ -1,11 +1,11 @@
 -- Whether a solver is large enough, by what was weighed.
-use Rattle.std.proofs.Common.{◌≡◌, ℕ, ◌<◌, ◌≤◌, Bool, true, false, ◌&&◌, leb, List, ◌++◌, map, ℤ, sym, ◌∙◌, subst, ⊎_elim, arith}
+use Rattle.std.proofs.Common.{◌≡◌, ℕ, ◌<◌, ◌≤◌, true, false, leb, List, map, ℤ, sym, ◌∙◌, subst, ⊎_elim, arith}
 use mathlib.Core.Bool.{false≢true}
 use Rattle.std.proofs.lemmas.Bool.{and_parts, and_from, and_left, cases_Bool, leb-true, le-leb, lt-leb}
 use Rattle.circuit.specs.Circuits.{Circuit}
 use Rattle.circuit.specs.Tests.{Test}
 use Rattle.solver.specs.Meaning.{Sizes}
-use Rattle.cnf_theory.specs.Literals.{Clause, integers}
+use Rattle.cnf_theory.specs.Literals.{integers}
 use Rattle.cnf_theory.specs.Variables.{variables}
 use Rattle.cnf_theory.specs.Sizes.{prices, longest}
 use Rattle.cnf_theory.specs.Formula.{formula}

@@ -1,7 +1,7 @@
 -- No clause weighed, and some after others: what a sink owes.
-use Rattle.std.specs.Prelude.{◌≡◌, ℕ, ◌+◌, max, List, [], ◌∷◌, ◌++◌, ℤ, refl}
+use Rattle.std.specs.Prelude.{◌≡◌, max, List, [], ◌∷◌, ◌++◌, ℤ, refl}
 use Rattle.std.proofs.Common.{◌∙◌, add-zero, arith}
-use Rattle.cnf_theory.specs.Sizes.{prices, longest}
+use Rattle.cnf_theory.specs.Sizes.{longest}
 use Rattle.answers.specs.FedLaws.{prices_append}
 use Rattle.lister.specs.Weighed.{Weighed}
 use Rattle.lister.specs.declared.scale.Scale.{Scale}

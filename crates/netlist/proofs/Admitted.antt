@@ -1,12 +1,12 @@
 -- What is asked of a statement, question by question.
-use Rattle.std.proofs.Common.{◌≡◌, ℕ, Bool, true, false, cond, not, ltb, List, length, is_some, Some, None, Ok, Err, Option, Result, sym, refl, ap, ◌∙◌}
+use Rattle.std.proofs.Common.{◌≡◌, ℕ, Bool, true, false, cond, not, ltb, List, length, is_some, Ok, Err, Option, Result, ap, ◌∙◌}
 use Rattle.std.proofs.lemmas.Bool.{cond-true, cond-false}
 use Rattle.circuit.specs.declared.kind.Kind.{Kind}
 use Rattle.circuit.specs.declared.gate.Signal.{Signal}
 use Rattle.circuit.specs.Kinds.{takes}
 use Rattle.netlist_text.specs.Statements.{Name, input, output, gate}
-use Rattle.netlist_text.specs.Netlists.{Netlist, Draft, signal, signals}
-use Rattle.netlist_text.specs.Meaning.{ask, new, input_added, output_added, gate_added, connected, admitted}
+use Rattle.netlist_text.specs.Netlists.{Draft, signal, signals}
+use Rattle.netlist_text.specs.Meaning.{ask, new, input_added, output_added, connected, admitted}
 
 pub yes : {X : Type 0} (q : ℕ) (so : Bool) (r : Result X ℕ) → so ≡ true → ask q so r ≡ r
 yes q so r e = cond-true so r (Err q) e

@@ -1,5 +1,5 @@
 -- The outputs of a netlist, one after another.
-use Rattle.std.proofs.Common.{◌≡◌, ℕ, suc, ◌+◌, ◌<◌, ◌≤◌, Bool, true, false, cond, ◌&&◌, eqb, ltb, List, [], ◌∷◌, ◌++◌, map, length, get_or, drop, Some, None, Ok, Err, vec_items, vec_len, Decides, Option, Result, sym, refl, ap, ◌∙◌, subst, ⊎_elim, arith}
+use Rattle.std.proofs.Common.{◌≡◌, ℕ, ◌+◌, ◌<◌, ◌≤◌, Bool, true, false, eqb, ltb, List, [], ◌∷◌, map, length, get_or, drop, Some, Ok, Err, vec_items, Decides, sym, refl, ap, ◌∙◌, subst, arith}
 use Rattle.std.specs.List.{IsAnyAnswer}
 use Rattle.std.proofs.lemmas.List.Elements.{contains_decides}
 use Rattle.std.proofs.lemmas.List.{at_drop_more, at_drop_all, length-map}
@@ -13,7 +13,7 @@ use Rattle.circuit.specs.Lists.{any}
 use Rattle.circuit.specs.Circuits.{there}
 use Rattle.circuit.specs.Held.{circuit_of, admits_output}
 use Rattle.netlist_text.specs.Statements.{none}
-use Rattle.netlist_text.specs.Netlists.{Netlist, OutputLine, signal}
+use Rattle.netlist_text.specs.Netlists.{Netlist, signal}
 use Rattle.netlist_text.specs.Meaning.{refusal, same_signal, shows, output_shown, shown, and_then, with_outputs}
 use Rattle.netlist_text.proofs.Signals.{signal_there}
 use Rattle.scanner.specs.Named.{name_of}

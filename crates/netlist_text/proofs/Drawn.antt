@@ -1,5 +1,5 @@
 -- A draft stays in order, statement by statement and line by line.
-use Rattle.std.proofs.Common.{◌≡◌, ℕ, zero, suc, ◌+◌, ◌<◌, ◌≤◌, Bool, true, false, cond, not, ◌&&◌, ltb, List, [], ◌∷◌, ◌++◌, length, get_or, is_some, Some, None, Ok, Err, Option, Result, sym, refl, ap, ◌∙◌, subst, zero-add, arith}
+use Rattle.std.proofs.Common.{◌≡◌, ℕ, suc, ◌+◌, ◌<◌, ◌≤◌, Bool, true, false, cond, ltb, List, [], length, get_or, is_some, Some, None, Ok, Err, Option, Result, sym, refl, ap, ◌∙◌, subst, zero-add, arith}
 use Rattle.std.proofs.lemmas.List.{length_push}
 use Rattle.std.proofs.lemmas.Bool.{both_ways, ltb-true, and_parts, and_from, not-true}
 use Rattle.refusal.specs.declared.Refusal.{Refusal}
@@ -13,7 +13,7 @@ use Rattle.circuit.proofs.Wiring.{wired_more, wired_push}
 use Rattle.netlist_text.specs.Words.{lexemes, stray, skipped}
 use Rattle.netlist_text.specs.Statements.{Name, Statement, input, output, gate, statement}
 use Rattle.netlist_text.specs.Netlists.{Netlist, OutputLine, Draft, blank, same_name, find, either, signal, signals}
-use Rattle.netlist_text.specs.Meaning.{input_added, output_added, gate_added, ask, new, connected, admitted, refusal, on_line, formed, clean, read_line}
+use Rattle.netlist_text.specs.Meaning.{input_added, output_added, gate_added, ask, new, connected, admitted, on_line, formed, clean, read_line}
 use Rattle.netlist_text.specs.Law.{good_name, Distinct, Apart}
 use Rattle.netlist_text.proofs.Signals.{signals_there}
 use Rattle.netlist_text.proofs.GoodNames.{good_statement, statement_good}

@@ -1,17 +1,17 @@
 -- Every netlist that a text gives is sound.
 use Rattle.std.proofs.Common.{◌≡◌, ℕ, zero, suc, ◌+◌, ◌<◌, ◌≤◌, Bool, true, false, cond, ◌||◌, eqb, leb, List, [], ◌∷◌, ◌++◌, length, get_or, Some, None, Ok, Err, Option, Result, sym, refl, ap, ◌∙◌, subst, ⊎_elim, arith}
-use Rattle.std.proofs.lemmas.List.{length_push, get_or_push, get_or_append_left, append-nil}
+use Rattle.std.proofs.lemmas.List.{length_push, get_or_push, get_or_append_left}
 use Rattle.std.proofs.lemmas.Bool.{cond-true, cond-false, cases_Bool, cases_lt, both_ways, or_parts, eqb-false, eq-eqb}
 use Rattle.refusal.specs.declared.Refusal.{Refusal}
 use Rattle.circuit.specs.declared.gate.Signal.{Signal}
 use Rattle.circuit.specs.declared.gate.Signal.TheVariants.{Input, Gate}
 use Rattle.circuit.specs.Lists.{all, any}
-use Rattle.circuit.specs.Circuits.{there, Sound}
+use Rattle.circuit.specs.Circuits.{there}
 use Rattle.circuit.proofs.Tested.{all_push}
 use Rattle.netlist_text.specs.Words.{lines}
 use Rattle.netlist_text.specs.Statements.{none}
 use Rattle.netlist_text.specs.Netlists.{Netlist, OutputLine, Draft, blank, signal}
-use Rattle.netlist_text.specs.Meaning.{refusal, read_line, same_signal, shows, output_shown, shown, and_then, with_outputs, lacking, finished, read_lines, meaning}
+use Rattle.netlist_text.specs.Meaning.{refusal, read_line, same_signal, shows, output_shown, shown, and_then, with_outputs, lacking, finished, read_lines}
 use Rattle.netlist_text.specs.Law.{Different, SoundNetlist, TakenIsSound}
 use Rattle.netlist_text.proofs.Signals.{signal_there}
 use Rattle.netlist_text.proofs.Drawn.{Named, Drawn, blank_drawn, line_drawn}

@@ -3,14 +3,14 @@
 --   read_line   a draft after one more line of the text
 --   finished    the netlist of a whole text
 --   meaning     what a text means
-use Rattle.std.specs.Prelude.{ℕ, suc, ◌+◌, Bool, true, false, cond, not, ◌||◌, List, [], ◌∷◌, ◌++◌, length, is_some, Some, None, Ok, Err, Option, Result, ◌==◌, nat_le, nat_lt}
+use Rattle.std.specs.Prelude.{ℕ, ◌+◌, Bool, false, cond, not, ◌||◌, List, [], ◌∷◌, ◌++◌, length, is_some, Some, None, Ok, Err, Option, Result, ◌==◌, nat_le, nat_lt}
 use Rattle.refusal.specs.declared.Refusal.{Refusal}
 use Rattle.circuit.specs.declared.kind.Kind.{Kind}
 use Rattle.circuit.specs.declared.gate.Signal.{Signal}
 use Rattle.circuit.specs.declared.gate.Signal.TheVariants.{Input, Gate}
 use Rattle.circuit.specs.Kinds.{takes}
 use Rattle.circuit.specs.Lists.{any}
-use Rattle.circuit.specs.Circuits.{Circuit, with_input, with_gate, with_output}
+use Rattle.circuit.specs.Circuits.{with_input, with_gate, with_output}
 use Rattle.netlist_text.specs.Words.{lines, lexemes, stray, skipped}
 use Rattle.netlist_text.specs.Statements.{Name, Statement, input, output, gate, statement, none}
 use Rattle.netlist_text.specs.Netlists.{Netlist, OutputLine, Draft, blank, signal, signals}

@@ -2,7 +2,7 @@
 --   Netlist   a circuit, and the names of its inputs and gates, by number
 --   Draft     what the lines of a text so far declare: a netlist without outputs, and the OUTPUT lines
 --   signal    the signal of a name
-use Rattle.std.specs.Prelude.{ℕ, ◌+◌, Bool, cond, List, [], ◌∷◌, ◌++◌, Some, None, Option}
+use Rattle.std.specs.Prelude.{ℕ, ◌+◌, Bool, cond, List, [], ◌∷◌, Some, None, Option}
 use Rattle.std.specs.Str.{bytes_eq}
 use Rattle.circuit.specs.declared.gate.Signal.{Signal}
 use Rattle.circuit.specs.declared.gate.Signal.TheVariants.{Input, Gate}

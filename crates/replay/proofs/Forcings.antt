@@ -1,5 +1,5 @@
 -- What is forced on a set, gate by gate, and the loops that list it.
-use Rattle.std.proofs.Common.{◌≡◌, ℕ, ◌+◌, ◌/◌, ◌%◌, ◌<◌, Bool, true, false, cond, ◌||◌, eqb, List, [], ◌∷◌, ◌++◌, map, length, get_or, take, drop, set, Some, None, sym, refl, ap, ◌∙◌}
+use Rattle.std.proofs.Common.{◌≡◌, ℕ, ◌+◌, ◌/◌, ◌%◌, ◌<◌, Bool, true, false, cond, ◌||◌, eqb, List, [], ◌∷◌, ◌++◌, length, get_or, take, drop, set, Some, None, sym, refl, ap, ◌∙◌}
 use Rattle.std.specs.Option.{option_map}
 use Rattle.std.proofs.lemmas.List.{append_assoc, at_drop_more, take_more_set}
 use Rattle.diagnosis.specs.Sets.{member}
@@ -8,7 +8,7 @@ use Rattle.signal_value.specs.declared.doubtful.Doubtful.{Doubtful}
 use Rattle.signal_value.specs.declared.doubtful.Doubtful.TheVariants.{Unknown}
 use Rattle.signal_value.specs.Possible.{only, both}
 use Rattle.signal_value.specs.Kept.{known}
-use Rattle.evaluation.specs.Evaluated.{Forcing, forcing}
+use Rattle.evaluation.specs.Evaluated.{forcing}
 use Rattle.evaluate.specs.declared.forced.Forced.{Forced}
 use Rattle.evaluate.specs.Forced.{forced_at, lane_forcing}
 use Rattle.replay.specs.Written.{unknown}

@@ -1,11 +1,11 @@
 -- What the names in a line's brackets say of its statement.
-use Rattle.std.proofs.Common.{◌≡◌, ℕ, suc, ◌<◌, ◌≤◌, Bool, true, false, ltb, List, [], ◌∷◌, map, length, get_or, take, Some, None, codes, Option, sym, refl, ap, ◌∙◌, arith}
+use Rattle.std.proofs.Common.{◌≡◌, ℕ, suc, ◌≤◌, Bool, true, false, List, [], ◌∷◌, map, length, get_or, take, Some, None, codes, Option, sym, refl, ap, ◌∙◌, arith}
 use Rattle.std.specs.Str.{bytes_eq}
 use Rattle.std.specs.Option.{option_map}
 use Rattle.std.proofs.lemmas.List.{take_all, length-map}
 use Rattle.std.proofs.lemmas.Bool.{ltb-false, cond-true, cond-false}
 use Rattle.circuit.specs.Listed.{listed}
-use Rattle.netlist_text.specs.Statements.{Name, Statement, input, output, declared}
+use Rattle.netlist_text.specs.Statements.{Name, input, output, declared}
 use Rattle.scanner.specs.declared.name.Name.{Name as HeldName}
 use Rattle.scanner.specs.declared.statement.Bracketed.{Bracketed}
 use Rattle.scanner.specs.Named.{name_of}

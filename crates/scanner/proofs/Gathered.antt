@@ -1,10 +1,10 @@
 -- Names gathered one after another, of which at most eight are kept.
-use Rattle.std.proofs.Common.{◌≡◌, ℕ, zero, suc, ◌+◌, ◌-◌, ◌<◌, ◌≤◌, Bool, true, false, cond, eqb, ltb, List, [], ◌∷◌, ◌++◌, map, length, take, Some, None, Option, sym, refl, ap, ◌∙◌, ⊎_elim, append_assoc, arith}
+use Rattle.std.proofs.Common.{◌≡◌, ℕ, zero, suc, ◌+◌, ◌≤◌, Bool, true, false, cond, ltb, List, [], ◌∷◌, ◌++◌, map, length, take, Some, None, Option, sym, refl, ap, ◌∙◌, ⊎_elim, append_assoc, arith}
 use Rattle.std.specs.Option.{option_map}
 use Rattle.std.proofs.lemmas.List.{append-nil, length_push, length-map, map_push}
 use Rattle.std.proofs.lemmas.Bool.{cond-true, cond-false, lt-ltb, le-ltb, cases_lt}
 use Rattle.netlist_text.specs.Words.{Lexeme, word, sign}
-use Rattle.netlist_text.specs.Statements.{Name, is_name, none, named, after, names}
+use Rattle.netlist_text.specs.Statements.{Name, is_name, named, names}
 use Rattle.circuit.specs.declared.operands.Operands.{Operands}
 use Rattle.circuit.specs.Listed.{listed}
 use Rattle.scanner.specs.declared.name.Name.{Name as HeldName}

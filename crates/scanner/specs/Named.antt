@@ -1,5 +1,5 @@
 -- The bytes of a name.
-use Rattle.std.specs.Prelude.{List, take}
+use Rattle.std.specs.Prelude.{take}
 use Rattle.netlist_text.specs.Statements.{Name}
 use Rattle.scanner.specs.declared.name.Name.{Name as HeldName}
 

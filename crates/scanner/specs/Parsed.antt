@@ -2,7 +2,7 @@
 --   first_eight   the first eight of some names, and whether there are more
 --   Says          that a parsed statement is this one
 --   Parsed        what the answer for a line's bytes is
-use Rattle.std.specs.Prelude.{◌≡◌, ℕ, Bool, true, false, List, [], ◌∷◌, map, length, take, Some, None, Ok, Err, Option, Result, nat_lt}
+use Rattle.std.specs.Prelude.{◌≡◌, ℕ, Bool, true, false, List, map, length, take, Some, None, Ok, Err, Option, Result, nat_lt}
 use Rattle.circuit.specs.declared.operands.Operands.{Operands}
 use Rattle.circuit.specs.Listed.{listed}
 use Rattle.netlist_text.specs.Words.{lexemes, stray}

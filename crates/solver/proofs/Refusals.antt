@@ -1,5 +1,5 @@
 -- A call to which each question is answered with a yes is not refused.
-use Rattle.std.proofs.Common.{◌≡◌, ℕ, ◌≤◌, true, List, length, ℤ, None, Option, sym, ◌∙◌}
+use Rattle.std.proofs.Common.{◌≡◌, ℕ, ◌≤◌, true, List, length, ℤ, None, sym, ◌∙◌}
 use Rattle.std.proofs.lemmas.Bool.{cond-true, le-leb}
 use Rattle.solver.specs.Rows.{all_named, price}
 use Rattle.solver.specs.Meaning.{Meaning}

@@ -3,7 +3,7 @@
 --   Sound   the solver below has the splitter's variables and all fresh ones in use and room for what the splitter may still take,
 --             and its rows do not depend on fresh variables that are not used yet
 --   bounded   a sound splitter is within its sizes
-use Rattle.std.specs.Prelude.{◌≡◌, ℕ, ◌+◌, ◌-◌, ◌≤◌}
+use Rattle.std.specs.Prelude.{◌≡◌, ℕ, ◌+◌, ◌≤◌}
 use Rattle.std.proofs.Common.{arith, lit≤}
 use Rattle.solver.specs.Rows.{Row, Agree}
 use Rattle.solver.specs.Meaning.{Meaning, Bounded}

@@ -1,11 +1,11 @@
 -- The first piece of a log, and what follows it.
-use Rattle.std.proofs.Common.{◌≡◌, ℕ, zero, suc, ◌+◌, ◌-◌, ◌*◌, ◌<◌, ◌≤◌, min, Bool, true, false, cond, eqb, ◌⊎◌, List, [], ◌∷◌, ◌++◌, length, take, drop, sym, refl, ap, ◌∙◌, subst, inl, inr, arith, length-drop, length-take}
-use Rattle.std.proofs.lemmas.List.{take_at, drop_at, take_all, drop_all, take-append-drop, length-take-le, append-nil}
+use Rattle.std.proofs.Common.{◌≡◌, ℕ, ◌+◌, ◌*◌, ◌<◌, ◌≤◌, Bool, true, false, cond, eqb, ◌⊎◌, List, [], ◌∷◌, ◌++◌, length, take, drop, sym, refl, ap, ◌∙◌, subst, inl, inr, arith, length-drop, length-take}
+use Rattle.std.proofs.lemmas.List.{take_at, drop_at, take_all, drop_all, take-append-drop, append-nil}
 use Rattle.std.proofs.lemmas.Bool.{eqb-false, eqb-true, eq-eqb, ne_eqb, cond-true, cond-false}
 use Rattle.circuit.specs.Circuits.{Circuit}
 use Rattle.test_format.specs.Packing.{bytes_for}
-use Rattle.test_format.specs.Records.{map_of, ones}
-use Rattle.test_format.specs.Logs.{required, first_record, after_first, pieces_in, pieces}
+use Rattle.test_format.specs.Records.{ones}
+use Rattle.test_format.specs.Logs.{required, first_record, after_first}
 use Rattle.test_format.specs.Law.{HasSignals}
 use Rattle.test_format.proofs.Grouped.{front_bits}
 

@@ -1,5 +1,5 @@
 -- A map and the values measured give the outputs, and the outputs give them back.
-use Rattle.std.proofs.Common.{◌≡◌, ℕ, suc, ◌+◌, ◌≤◌, Bool, true, false, cond, List, [], ◌∷◌, ◌++◌, map, length, get_or, take, drop, is_some, Some, None, Option, sym, refl, ap, ◌∙◌, arith}
+use Rattle.std.proofs.Common.{◌≡◌, suc, ◌+◌, ◌≤◌, Bool, true, false, List, [], ◌∷◌, ◌++◌, map, length, take, drop, is_some, Some, None, Option, refl, ap, ◌∙◌, arith}
 use Rattle.test_format.specs.Records.{measured, ones, filled}
 
 pub ones_marks : (os : List (Option Bool)) → ones (map is_some os) ≡ length (measured os)

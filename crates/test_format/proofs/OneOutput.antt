@@ -1,12 +1,11 @@
 -- Amending changes the output named and nothing else, and striking undoes the last record.
-use Rattle.std.proofs.Common.{◌≡◌, ℕ, zero, suc, ◌+◌, ◌-◌, ◌<◌, ◌≤◌, Bool, true, false, ltb, List, [], ◌∷◌, ◌++◌, length, take, set, is_some, Some, None, Ok, Err, Option, Result, sym, refl, ap, ◌∙◌, subst, arith}
+use Rattle.std.proofs.Common.{◌≡◌, ℕ, zero, suc, ◌-◌, Bool, true, ltb, List, [], ◌∷◌, ◌++◌, length, set, is_some, Some, None, Ok, Option, sym, refl, ap, ◌∙◌, subst, arith}
 use Rattle.std.specs.List.{slice_get}
 use Rattle.std.specs.Option.{option_map}
 use Rattle.std.proofs.lemmas.List.{length_push, take_at}
 use Rattle.std.proofs.lemmas.Bool.{lt-ltb, false≢true}
-use Rattle.refusal.specs.declared.Refusal.{Refusal}
 use Rattle.circuit.specs.Tests.{Test}
-use Rattle.test_format.specs.Amending.{reading, output_of, output_at, with_reading, replaced, amended_by, amended, Amended, struck}
+use Rattle.test_format.specs.Amending.{reading, output_of, output_at, with_reading, replaced, amended_by, Amended}
 use Rattle.test_format.specs.Law.{AmendsOne, StrikesLast}
 use Rattle.test_format.proofs.Taken.{ask_taken}
 use Rattle.test_format.proofs.ReadBack.{ask_so}

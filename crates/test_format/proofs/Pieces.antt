@@ -1,13 +1,13 @@
 -- The pieces of a log are cut from it, in the one way there is; so records end to end are cut into the same records.
-use Rattle.std.proofs.Common.{◌≡◌, ℕ, zero, suc, ◌+◌, ◌*◌, ◌<◌, ◌≤◌, Bool, true, false, cond, ◌⊎◌, List, [], ◌∷◌, ◌++◌, map, length, get_or, sym, refl, ap, ◌∙◌, subst, inl, inr, arith}
+use Rattle.std.proofs.Common.{◌≡◌, ℕ, zero, suc, ◌+◌, ◌<◌, ◌≤◌, ◌⊎◌, List, [], ◌∷◌, ◌++◌, map, length, get_or, sym, refl, ap, ◌∙◌, subst, inl, inr, arith}
 use Rattle.std.specs.List.{flat_map, AllByRecursion as All}
-use Rattle.std.proofs.lemmas.List.{length-append, length-map, append-nil}
+use Rattle.std.proofs.lemmas.List.{length-append, append-nil}
 use Rattle.circuit.specs.Circuits.{Circuit}
 use Rattle.circuit.specs.Tests.{Test, FitsTest}
 use Rattle.test_format.specs.Records.{written, record_length}
 use Rattle.test_format.specs.Logs.{required, first_record, after_first, pieces_in, pieces}
 use Rattle.test_format.specs.Law.{HasSignals, Cut, LogIsCut, LogReadsBack}
-use Rattle.test_format.proofs.Cutting.{CutOff, first_cut_off, required_first, required_some, first_is}
+use Rattle.test_format.proofs.Cutting.{first_cut_off, required_first, required_some, first_is}
 use Rattle.test_format.proofs.ReadBack.{marks, required_written, marks_fit}
 
 pub none_cut : (k : ℕ) (c : Circuit) → pieces_in k c [] ≡ []

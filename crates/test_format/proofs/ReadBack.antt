@@ -1,15 +1,14 @@
 -- The record of a test is taken, and gives the test.
-use Rattle.std.proofs.Common.{◌≡◌, ℕ, ◌+◌, ◌*◌, ◌≤◌, Bool, true, false, cond, not, ◌&&◌, eqb, List, [], ◌∷◌, ◌++◌, map, length, take, drop, is_some, Ok, Option, Result, sym, refl, ap, ◌∙◌, subst, arith}
+use Rattle.std.proofs.Common.{◌≡◌, ℕ, Bool, true, eqb, List, [], ◌++◌, map, length, take, drop, is_some, Ok, Option, Result, sym, ap, ◌∙◌}
 use Rattle.std.proofs.lemmas.List.{length-map, take-append-drop, append-nil}
 use Rattle.std.proofs.lemmas.Bool.{and_from, eq-eqb, cond-true}
 use Rattle.refusal.specs.declared.Refusal.{Refusal}
-use Rattle.circuit.specs.Lists.{all}
 use Rattle.circuit.specs.Circuits.{Circuit}
 use Rattle.circuit.specs.Tests.{Test, FitsTest}
-use Rattle.test_format.specs.Packing.{unpack, bytes_for, pack}
-use Rattle.test_format.specs.Records.{measured, written, map_of, ones, record_length, map_group, input_group, value_group, clear, all_clear, filled, given, refused, ask, decoded}
+use Rattle.test_format.specs.Packing.{unpack, pack}
+use Rattle.test_format.specs.Records.{measured, written, map_of, ones, record_length, map_group, input_group, value_group, clear, all_clear, filled, given, refused, ask}
 use Rattle.test_format.specs.Law.{RecordReadsBack}
-use Rattle.test_format.proofs.Packed.{length_pack, take_unpack_pack, unpack_pack_clear}
+use Rattle.test_format.proofs.Packed.{take_unpack_pack, unpack_pack_clear}
 use Rattle.test_format.proofs.Marked.{ones_marks, filled_measured}
 use Rattle.test_format.proofs.Grouped.{map_of_packed, map_group_packed, input_group_packed, value_group_packed, required_packed}
 

@@ -1,14 +1,14 @@
 -- Tests of a circuit stay tests of it, whatever is recorded, amended or struck.
-use Rattle.std.proofs.Common.{◌≡◌, ℕ, zero, suc, ◌-◌, Bool, true, false, eqb, ltb, List, [], ◌∷◌, ◌++◌, length, take, is_some, Some, None, Ok, Err, Option, Result, sym, refl, ap, ◌∙◌, subst, arith, length-set}
+use Rattle.std.proofs.Common.{◌≡◌, ℕ, zero, suc, ◌-◌, Bool, eqb, ltb, List, [], ◌∷◌, ◌++◌, length, take, is_some, Some, None, Ok, Err, Option, Result, refl, ◌∙◌, subst, arith, length-set}
 use Rattle.std.specs.List.{AllByRecursion as All}
 use Rattle.std.proofs.ByRecursion.{All-push, All-take}
 use Rattle.std.proofs.lemmas.Bool.{eqb-true}
 use Rattle.refusal.specs.declared.Refusal.{Refusal}
 use Rattle.circuit.specs.Circuits.{Circuit}
 use Rattle.circuit.specs.Tests.{Test, FitsTest}
-use Rattle.test_format.specs.Records.{record_length, all_clear, given, ask, decoded, joined_by, recorded}
-use Rattle.test_format.specs.Amending.{reading, output_at, with_reading, replaced, amended_by, amended, struck}
-use Rattle.test_format.specs.Law.{StayFit, TestsStayFit}
+use Rattle.test_format.specs.Records.{record_length, all_clear, given, ask, decoded, joined_by}
+use Rattle.test_format.specs.Amending.{reading, output_at, with_reading, replaced, amended_by}
+use Rattle.test_format.specs.Law.{TestsStayFit}
 use Rattle.test_format.proofs.Taken.{ask_taken, given_fits}
 
 pub decoded_fits : (c : Circuit) (bytes : List ℕ) (t : Test) → decoded c bytes ≡ Ok t → FitsTest c t

@@ -1,13 +1,12 @@
 -- Bytes that are taken are the record of the test that they give.
-use Rattle.std.proofs.Common.{◌≡◌, ℕ, ◌+◌, ◌-◌, ◌*◌, ◌≤◌, Bool, true, false, cond, not, ◌&&◌, eqb, List, [], ◌∷◌, ◌++◌, map, length, take, drop, is_some, Ok, Err, Option, Result, sym, refl, ap, ◌∙◌, subst, arith, length-drop}
-use Rattle.std.proofs.lemmas.List.{length-append, length-take-le}
+use Rattle.std.proofs.Common.{◌≡◌, ℕ, ◌≤◌, Bool, true, false, ◌&&◌, eqb, List, ◌++◌, map, length, take, drop, is_some, Ok, Result, sym, refl, ap, ◌∙◌, subst, arith, length-drop}
+use Rattle.std.proofs.lemmas.List.{length-take-le}
 use Rattle.std.proofs.lemmas.Bool.{and_parts, eqb-true}
 use Rattle.refusal.specs.declared.Refusal.{Refusal}
 use Rattle.circuit.specs.Lists.{all}
-use Rattle.circuit.specs.Circuits.{Circuit}
 use Rattle.circuit.specs.Tests.{Test, FitsTest}
 use Rattle.test_format.specs.Packing.{unpack, bytes_for, pack, is_byte}
-use Rattle.test_format.specs.Records.{measured, written, map_of, ones, record_length, map_group, input_group, value_group, clear, all_clear, filled, given, refused, ask, decoded}
+use Rattle.test_format.specs.Records.{measured, written, map_of, ones, record_length, map_group, input_group, value_group, clear, all_clear, filled, given, ask}
 use Rattle.test_format.specs.Law.{TakenIsWritten}
 use Rattle.test_format.proofs.Packed.{length_unpack, length_front, clear_is_packed}
 use Rattle.test_format.proofs.Marked.{marks_filled, length_filled, measured_filled}

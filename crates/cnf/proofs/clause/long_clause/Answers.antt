@@ -1,5 +1,5 @@
 -- Each literal of a long clause is handed over in its place.
-use Rattle.std.proofs.Common.{◌≡◌, ℕ, ◌+◌, ◌<◌, ◌≤◌, List, [], ◌∷◌, map, length, take, ℤ, sym, ap, ◌∙◌, subst, arith, length-set, take_all, w32, SFits, to_z, of_z, rules}
+use Rattle.std.proofs.Common.{◌≡◌, ℕ, ◌+◌, ◌<◌, List, [], ◌∷◌, map, length, take, ℤ, sym, ap, ◌∙◌, subst, arith, length-set, take_all, w32, SFits, to_z, of_z, rules}
 use Rattle.std.proofs.lemmas.Int.{to_z-of_z}
 use Rattle.cnf_theory.specs.Literals.{integer, signed}
 use Rattle.cnf.specs.Code.{Small, literal_of}

@@ -1,5 +1,5 @@
 -- A long clause is taken as it was put together.
-use Rattle.std.proofs.Common.{◌≡◌, List, [], ◌∷◌, ℤ, subst}
+use Rattle.std.proofs.Common.{List, [], ◌∷◌, ℤ, subst}
 use Rattle.cnf.proofs.clause.take_long.Goals as goal
 
 pub returns : goal.returns

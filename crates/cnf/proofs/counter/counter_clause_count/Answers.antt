@@ -1,5 +1,5 @@
 -- The counter's clauses are counted.
-use Rattle.std.proofs.Common.{◌≡◌, ℕ, suc, ◌+◌, ◌-◌, ◌*◌, ◌≤◌, sym, ap, ◌∙◌, mul-le-mul, arith}
+use Rattle.std.proofs.Common.{◌≡◌, suc, ◌+◌, ◌-◌, ◌*◌, ap, ◌∙◌, arith}
 use Rattle.cnf.proofs.CounterLength.{counter_length}
 use Rattle.cnf.proofs.counter.counter_clause_count.Goals as goal
 

@@ -1,5 +1,5 @@
 -- The counts of one gate after another.
-use Rattle.std.proofs.Common.{◌≡◌, sym, ap, ◌∙◌, add-one, arith}
+use Rattle.std.proofs.Common.{◌≡◌, sym, ap, add-one, arith}
 use Rattle.std.specs.List.{flat_map}
 use Rattle.cnf_theory.specs.Counter.{from, count_at}
 use Rattle.cnf.proofs.Wrote.{wrote_more, wrote_as}

@@ -1,5 +1,5 @@
 -- A counter that the sink passes counts as taken.
-use Rattle.std.proofs.Common.{◌≡◌, ◌∙◌}
+use Rattle.std.proofs.Common.{◌∙◌}
 use Rattle.cnf_theory.specs.Literals.{integers}
 use Rattle.cnf_theory.specs.Counter.{counter}
 use Rattle.cnf.proofs.Pieces.{integers_length}

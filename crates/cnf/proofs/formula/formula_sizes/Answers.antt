@@ -1,5 +1,5 @@
 -- The tally of the formula.
-use Rattle.std.proofs.Common.{◌≡◌, refl}
+use Rattle.std.proofs.Common.{refl}
 use Rattle.circuit.specs.Held.{circuit_of}
 use Rattle.cnf.proofs.Held.{sound_held}
 use Rattle.cnf.proofs.Sized.{sized}

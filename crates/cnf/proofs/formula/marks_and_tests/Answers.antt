@@ -1,5 +1,5 @@
 -- These are not many.
-use Rattle.std.proofs.Common.{◌≡◌, ℕ, suc, ◌+◌, ◌*◌, ◌≤◌, ap, mul-le-mul, arith}
+use Rattle.std.proofs.Common.{◌≡◌, suc, ◌+◌, ◌*◌, ◌≤◌, ap, mul-le-mul, arith}
 use Rattle.cnf.proofs.formula.marks_and_tests.Goals as goal
 
 pub returns : goal.returns

@@ -1,6 +1,5 @@
 -- A circuit that is held is within the limits.
-use Rattle.std.proofs.Common.{◌≡◌, suc, ◌+◌, ◌*◌, ◌≤◌, length, sym, ap, ◌∙◌, arith}
-use Rattle.circuit.specs.Held.{circuit_of}
+use Rattle.std.proofs.Common.{suc, ◌+◌, ◌*◌, ◌∙◌, arith}
 use Rattle.cnf.proofs.Held.{sound_held, gates_same}
 use Rattle.cnf.proofs.formula.test_base.Goals as goal
 

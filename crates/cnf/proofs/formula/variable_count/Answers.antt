@@ -1,5 +1,5 @@
 -- At most 32 tests are held.
-use Rattle.std.proofs.Common.{◌≡◌, ◌≤◌, ap, ◌∙◌, arith}
+use Rattle.std.proofs.Common.{◌∙◌, arith}
 use Rattle.circuit.specs.Held.{circuit_of}
 use Rattle.cnf_theory.specs.Variables.{base}
 use Rattle.cnf.proofs.Sized.{tests_held}

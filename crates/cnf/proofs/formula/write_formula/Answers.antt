@@ -1,5 +1,5 @@
 -- The counter, its limit, and the tests.
-use Rattle.std.proofs.Common.{◌≡◌, ◌≤◌, ◌++◌, map, length, sym, ap, ◌∙◌, arith}
+use Rattle.std.proofs.Common.{◌≤◌, length, sym, ap, ◌∙◌, arith}
 use Rattle.std.proofs.lemmas.List.{length-map}
 use Rattle.circuit.specs.Held.{circuit_of}
 use Rattle.testlog.specs.Held.{test_of}

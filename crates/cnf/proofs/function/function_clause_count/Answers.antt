@@ -1,6 +1,5 @@
 -- A clause for each operand and one more, or a table.
-use Rattle.std.proofs.Common.{◌≡◌, ℕ, ◌+◌, Bool, true, length, sym, refl, ap, ◌∙◌, ⊎_elim, arith}
-use Rattle.circuit.specs.declared.kind.Kind.{Kind}
+use Rattle.std.proofs.Common.{◌≡◌, ◌+◌, true, ap, ◌∙◌, ⊎_elim, arith}
 use Rattle.circuit.specs.Kinds.{takes}
 use Rattle.cnf.proofs.Pieces.{plain, plain_length, table_length}
 use Rattle.cnf.proofs.function.function_clause_count.Goals as goal

@@ -1,5 +1,5 @@
 -- A clause for each operand, and one with all of them.
-use Rattle.std.proofs.Common.{◌≡◌, ℕ, not, List, [], ◌∷◌, ◌++◌, map, length, get_or, take, sym, ap, ◌∙◌, subst, take_all}
+use Rattle.std.proofs.Common.{ℕ, not, [], ◌∷◌, map, sym, ap, subst, take_all}
 use Rattle.cnf_theory.specs.Literals.{Clause, signed}
 use Rattle.cnf.specs.Code.{Small}
 use Rattle.cnf.proofs.Wrote.{wrote_both, wrote_as, two_is, head_is}

@@ -1,5 +1,5 @@
 -- The tables of XOR and XNOR are those of their two operands.
-use Rattle.std.proofs.Common.{◌≡◌, ◌<◌, ◌≤◌, length, get_or, sym, ap, ◌∙◌, subst, arith}
+use Rattle.std.proofs.Common.{arith}
 use Rattle.cnf.specs.Code.{Small}
 use Rattle.cnf.proofs.Pieces.{all_at, xor_is, xnor_is}
 use Rattle.cnf.proofs.Wrote.{wrote_as}

@@ -1,5 +1,4 @@
 -- Four clauses, one for each row of two values.
-use Rattle.std.proofs.Common.{◌≡◌, [], ◌∷◌}
 use Rattle.cnf_theory.specs.Literals.{positive, negative}
 use Rattle.cnf.proofs.Wrote.{four, third_is}
 use Rattle.cnf.proofs.function.write_parity.Goals as goal

@@ -1,5 +1,5 @@
 -- The function's clauses and the four of the selection.
-use Rattle.std.proofs.Common.{◌≡◌, ◌≤◌, true, length, sym, ap, ◌∙◌, arith}
+use Rattle.std.proofs.Common.{◌≡◌, length, sym, ap, ◌∙◌, arith}
 use Rattle.std.proofs.lemmas.List.{length-map}
 use Rattle.circuit.specs.Kinds.{takes}
 use Rattle.circuit.specs.Listed.{listed}

@@ -1,5 +1,5 @@
 -- The clauses of one gate after another are counted.
-use Rattle.std.proofs.Common.{◌≡◌, suc, ◌+◌, ◌*◌, ◌≤◌, ◌++◌, map, length, take, sym, refl, ap, ◌∙◌, subst, arith, length-append, take_all}
+use Rattle.std.proofs.Common.{suc, ◌+◌, map, length, take, sym, ap, ◌∙◌, subst, arith, length-append, take_all}
 use Rattle.circuit.specs.Circuits.{gate_of}
 use Rattle.cnf_theory.specs.Gates.{gate_clauses}
 use Rattle.cnf_theory.specs.Formula.{gates_clauses}

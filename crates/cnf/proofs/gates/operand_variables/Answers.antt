@@ -1,5 +1,5 @@
 -- Each operand's variable stands in its place.
-use Rattle.std.proofs.Common.{◌≡◌, ◌<◌, length, take, sym, ap, ◌∙◌, arith, length-set, take_all}
+use Rattle.std.proofs.Common.{◌≡◌, ◌<◌, length, take, ap, ◌∙◌, arith, length-set, take_all}
 use Rattle.cnf.specs.Code.{Near, variables_of}
 use Rattle.cnf.proofs.Pieces.{all_at, variables_more, small_variables}
 use Rattle.cnf.proofs.gates.operand_variables.Goals as goal

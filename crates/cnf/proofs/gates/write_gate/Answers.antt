@@ -1,5 +1,5 @@
 -- A gate's function, and then the selection.
-use Rattle.std.proofs.Common.{◌≡◌, ℕ, ◌≤◌, List, length, take, sym, ap, ◌∙◌, subst, arith, rules}
+use Rattle.std.proofs.Common.{◌≡◌, length, take, ap, ◌∙◌}
 use Rattle.circuit.specs.Listed.{listed}
 use Rattle.cnf.specs.Code.{variables_of}
 use Rattle.cnf.proofs.Wrote.{wrote_both, wrote_as}

@@ -1,5 +1,5 @@
 -- What the sink passes counts as taken.
-use Rattle.std.proofs.Common.{◌≡◌, suc, sym, ◌∙◌, subst}
+use Rattle.std.proofs.Common.{suc, ◌∙◌}
 use Rattle.circuit.specs.Circuits.{gate_of}
 use Rattle.cnf_theory.specs.Literals.{integers}
 use Rattle.cnf_theory.specs.Gates.{gate_clauses}

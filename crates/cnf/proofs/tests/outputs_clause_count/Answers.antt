@@ -1,5 +1,5 @@
 -- The clauses of one output after another are counted.
-use Rattle.std.proofs.Common.{◌≡◌, ◌+◌, ◌<◌, ◌≤◌, min, length, get_or, take, sym, refl, ap, ◌∙◌, arith, length-append}
+use Rattle.std.proofs.Common.{◌≡◌, ◌+◌, ◌<◌, min, length, get_or, take, sym, ap, ◌∙◌, arith, length-append}
 use Rattle.circuit.specs.declared.gate.Signal.TheVariants as signal
 use Rattle.cnf_theory.specs.Formula.{output_clauses}
 use Rattle.cnf.proofs.Held.{output_more, output_cut}

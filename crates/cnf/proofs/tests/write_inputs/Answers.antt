@@ -1,5 +1,5 @@
 -- One literal for each input.
-use Rattle.std.proofs.Common.{◌≡◌, sym, ap, take_all}
+use Rattle.std.proofs.Common.{sym, ap, take_all}
 use Rattle.cnf_theory.specs.Formula.{input_clauses}
 use Rattle.cnf.proofs.Wrote.{wrote_both, wrote_as, one_is}
 use Rattle.cnf.proofs.Held.{input_more}

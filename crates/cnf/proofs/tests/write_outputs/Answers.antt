@@ -1,6 +1,5 @@
 -- One literal for each output that was measured.
-use Rattle.std.proofs.Common.{◌≡◌, ◌<◌, ◌≤◌, min, length, take, sym, ap, ◌∙◌, arith}
-use Rattle.cnf_theory.specs.Formula.{output_clauses}
+use Rattle.std.proofs.Common.{◌≡◌, ◌<◌, min, length, sym, arith}
 use Rattle.cnf.specs.Code.{Near}
 use Rattle.cnf.proofs.Wrote.{wrote_both, wrote_as}
 use Rattle.cnf.proofs.Pieces.{all_at}

@@ -1,5 +1,5 @@
 -- The inputs, the gates and the outputs of a test, as they are held.
-use Rattle.std.proofs.Common.{◌≡◌, ◌≤◌, length, sym, ap, ◌∙◌, arith}
+use Rattle.std.proofs.Common.{length, ap, arith}
 use Rattle.cnf_theory.specs.Formula.{input_clauses, gates_clauses, output_clauses}
 use Rattle.cnf.proofs.Wrote.{wrote_both, wrote_as}
 use Rattle.cnf.proofs.Held.{gates_fair, outputs_near, inputs_few, sound_held}

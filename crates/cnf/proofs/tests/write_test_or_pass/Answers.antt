@@ -1,5 +1,5 @@
 -- A test whose clauses the sink passes counts as taken.
-use Rattle.std.proofs.Common.{◌≡◌, ◌≤◌, length, sym, ap, ◌∙◌, arith}
+use Rattle.std.proofs.Common.{length, sym, ap, ◌∙◌}
 use Rattle.circuit.specs.Held.{circuit_of}
 use Rattle.testlog.specs.Held.{test_of}
 use Rattle.cnf_theory.specs.Literals.{integers}

@@ -1,5 +1,5 @@
 -- The last digit stands behind those of a tenth.
-use Rattle.std.proofs.Common.{◌≡◌, ◌^◌, ◌<◌, ◌≤◌, [], ◌∷◌, sym, ap, ◌∙◌, arith}
+use Rattle.std.proofs.Common.{sym, arith}
 use Rattle.std.proofs.lemmas.Fmt.{decimal_digit, decimal_step}
 use Rattle.dimacs.proofs.Appending.{appended_both, appended_as}
 use Rattle.dimacs.proofs.digits.+push_decimal.Goals as goal

@@ -1,5 +1,5 @@
 -- A word for each literal, then 0 and the end of the line.
-use Rattle.std.proofs.Common.{◌≡◌, ◌+◌, ◌*◌, ◌≤◌, [], ◌∷◌, ◌++◌, length, get_or, take, pos, sym, ap, ◌∙◌, arith, length-append, take_all, w32, SFits, rules}
+use Rattle.std.proofs.Common.{[], ◌∷◌, ◌++◌, length, get_or, take, pos, sym, ap, ◌∙◌, arith, length-append, take_all, w32, SFits, rules}
 use Rattle.std.proofs.lemmas.Int.{to_z-of_z}
 use Rattle.std.specs.Fmt.{signed_decimal}
 use Rattle.dimacs.specs.Texts.{words_of}

@@ -1,5 +1,5 @@
 -- A signed number and a space.
-use Rattle.std.proofs.Common.{◌≡◌, ◌≤◌, [], ◌∷◌, length, ap, arith, length-append, w32}
+use Rattle.std.proofs.Common.{[], ◌∷◌, length, ap, arith, length-append, w32}
 use Rattle.std.proofs.lemmas.Int.{to_z-of_z}
 use Rattle.std.specs.Fmt.{signed_decimal}
 use Rattle.dimacs.proofs.Appending.{appended_both, appended_as}

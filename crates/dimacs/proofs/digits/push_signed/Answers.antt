@@ -1,9 +1,8 @@
 -- A minus sign before the digits of a negative number.
-use Rattle.std.proofs.Common.{◌≡◌, ℕ, suc, ◌^◌, ◌<◌, ◌≤◌, true, false, length, pos, nat_abs, decimal, sym, ap, ◌∙◌, arith, w32}
+use Rattle.std.proofs.Common.{◌≡◌, ℕ, ◌^◌, ◌≤◌, length, pos, nat_abs, decimal, sym, ap, ◌∙◌, arith, w32}
 use lib.Signed.{lt_z}
 use Rattle.std.proofs.lemmas.Int.{to_z-of_z}
 use Rattle.std.proofs.lemmas.Fmt.{length-decimal-le}
-use Rattle.std.specs.Fmt.{signed_decimal}
 use Rattle.dimacs.proofs.Appending.{appended_both, appended_as, negative_word, positive_word}
 use Rattle.dimacs.proofs.digits.push_signed.Goals as goal
 

@@ -1,5 +1,5 @@
 -- The first line tells the sizes, and every other is that of a clause.
-use Rattle.std.proofs.Common.{◌≡◌, suc, ◌-◌, ◌^◌, ◌<◌, ◌≤◌, List, [], ◌∷◌, ◌++◌, length, get_or, take, Some, sym, ap, ◌∙◌, arith, length-append, length-take}
+use Rattle.std.proofs.Common.{◌≡◌, suc, ◌-◌, ◌^◌, ◌<◌, ◌≤◌, [], ◌∷◌, ◌++◌, length, get_or, take, Some, sym, ap, ◌∙◌, arith, length-append, length-take}
 use Rattle.circuit.specs.Held.{circuit_of}
 use Rattle.testlog.specs.Held.{tests_of}
 use Rattle.cnf_theory.specs.Formula.{formula}

@@ -1,4 +1,4 @@
-use Rattle.std.proofs.Common.{◌≡◌, ◌≤◌, length, take}
+use Rattle.std.proofs.Common.{◌≡◌, length, take}
 use Rattle.dimacs.proofs.pick.copied.Given as goal
 
 abbrev pub invariant-loop-i : goal.invariant-loop-i

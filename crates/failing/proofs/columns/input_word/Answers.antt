@@ -1,4 +1,4 @@
-use Rattle.std.proofs.Common.{◌<◌, Bool, false, map, length, get_or, ap, ◌∙◌, arith, length-set}
+use Rattle.std.proofs.Common.{◌<◌, Bool, false, length, get_or, ap, ◌∙◌, arith, length-set}
 use Rattle.testlog.specs.declared.test.Test.{Test as HeldTest}
 use Rattle.testlog.specs.Held.{test_of}
 use Rattle.failing.specs.Missed.{word_of}

@@ -1,5 +1,5 @@
 -- One count after another: no row has fewer marks than those asked for before.
-use Rattle.std.proofs.Common.{◌≡◌, ℕ, suc, ◌+◌, ◌≤◌, sym, ap, ◌∙◌, subst, arith}
+use Rattle.std.proofs.Common.{◌≡◌, ℕ, suc, sym, ap, ◌∙◌, subst, arith}
 use Rattle.cnf_theory.specs.Variables.{count_variable}
 use Rattle.answers.specs.Loaded.{NeverOff, SomeOff}
 use Rattle.answers.proofs.Answering.{kept_none, kept_both, never_kept, some_kept, last_below}

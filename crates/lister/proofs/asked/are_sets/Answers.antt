@@ -1,5 +1,5 @@
 -- Each set that was looked at is one, so all are if the rest are.
-use Rattle.std.proofs.Common.{◌≡◌, Bool, sym, ap, ◌∙◌}
+use Rattle.std.proofs.Common.{Bool, sym, ap, ◌∙◌}
 use Rattle.circuit.proofs.Tested.{all_more, all_fails, all_done}
 use Rattle.gate_set.specs.declared.gate_set.GateSet.{GateSet}
 use Rattle.gate_set.specs.Held.{set_of}

@@ -1,5 +1,5 @@
 -- Each test that was looked at fits, so all do if the rest do.
-use Rattle.std.proofs.Common.{◌≡◌, Bool, sym, ap, ◌∙◌}
+use Rattle.std.proofs.Common.{Bool, sym, ap, ◌∙◌}
 use Rattle.circuit.specs.Held.{circuit_of}
 use Rattle.circuit.proofs.Tested.{all_more, all_fails, all_done}
 use Rattle.testlog.specs.declared.test.Test.{Test}

@@ -1,5 +1,5 @@
 -- The circuit's gates, the tests and the sets, one question after another.
-use Rattle.std.proofs.Common.{◌≡◌, ◌<◌, ltb, length, sym, ap, ◌∙◌, arith}
+use Rattle.std.proofs.Common.{◌<◌, ltb, length, sym, ap, ◌∙◌, arith}
 use Rattle.std.proofs.lemmas.Bool.{and_left, le-ltb}
 use Rattle.circuit.specs.Lists.{all}
 use Rattle.circuit.specs.Held.{circuit_of}

@@ -1,5 +1,5 @@
 -- One more gate's negated mark.
-use Rattle.std.proofs.Common.{◌≡◌, ◌<◌, ◌≤◌, map, length, get_or, take, sym, ap, ◌∙◌, arith, length-set, take_all, w32, SFits, to_z, of_z, rules}
+use Rattle.std.proofs.Common.{◌≡◌, ◌<◌, map, length, take, ap, ◌∙◌, arith, length-set, take_all, w32, SFits, rules}
 use Rattle.std.proofs.lemmas.Int.{to_z-of_z}
 use Rattle.cnf_theory.specs.Literals.{integer}
 use Rattle.candidates.specs.Added.{barring}

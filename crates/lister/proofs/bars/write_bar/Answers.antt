@@ -1,9 +1,8 @@
 -- The clause that was made is the one taken.
-use Rattle.std.proofs.Common.{◌≡◌, ◌≤◌, List, [], ◌∷◌, map, length, ℤ, sym, ap, ◌∙◌, subst, arith}
+use Rattle.std.proofs.Common.{List, [], ◌∷◌, map, length, ℤ, sym, ap, ◌∙◌, subst, arith}
 use Rattle.std.proofs.lemmas.List.{length-take-le}
 use Rattle.cnf_theory.specs.Literals.{integer}
 use Rattle.candidates.specs.Added.{barring}
-use Rattle.gate_set.specs.Held.{set_of}
 use Rattle.lister.specs.Asked.{GateNumbers}
 use Rattle.lister.proofs.bars.write_bar.Goals as goal
 

@@ -1,5 +1,5 @@
 -- One more set's clause.
-use Rattle.std.proofs.Common.{◌≡◌, map, ap, take_all}
+use Rattle.std.proofs.Common.{map, ap, take_all}
 use Rattle.candidates.specs.Added.{barring}
 use Rattle.gate_set.specs.Held.{sets_of}
 use Rattle.cnf.proofs.Wrote.{wrote_both, wrote_as}

@@ -1,8 +1,8 @@
 -- The solver was begun, and took the formula and then the barring clauses.
-use Rattle.std.proofs.Common.{◌≡◌, ℕ, ◌≤◌, List, ◌++◌, map, length, sym, ap, ◌∙◌, subst}
+use Rattle.std.proofs.Common.{ℕ, ◌≤◌, map, length, sym, subst}
 use Rattle.circuit.specs.Held.{circuit_of}
 use Rattle.testlog.specs.Held.{tests_of}
-use Rattle.solver.specs.Meaning.{Meaning, Begun}
+use Rattle.solver.specs.Meaning.{Begun}
 use Rattle.cnf_theory.specs.Variables.{variables}
 use Rattle.cnf_theory.specs.Formula.{formula}
 use Rattle.answers.proofs.Filling.{filled, loaded, fed_pieces}

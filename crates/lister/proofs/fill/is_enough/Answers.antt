@@ -1,5 +1,5 @@
 -- The capacity is compared, and the clauses are weighed against the width and the room.
-use Rattle.std.proofs.Common.{◌≡◌, ℕ, ◌<◌, ◌≤◌, refl, arith}
+use Rattle.std.proofs.Common.{◌<◌, ◌≤◌, refl, arith}
 use Rattle.circuit.specs.Held.{circuit_of}
 use Rattle.testlog.specs.Held.{tests_of}
 use Rattle.cnf_theory.specs.Variables.{variables}

@@ -1,5 +1,5 @@
 -- The gate's literal is written, asked for, and turned if no row has it.
-use Rattle.std.proofs.Common.{◌≡◌, set, sym, ap, ◌∙◌, set-set, w32, SFits, rules}
+use Rattle.std.proofs.Common.{set, sym, ap, ◌∙◌, set-set, w32, SFits, rules}
 use Rattle.std.proofs.lemmas.Int.{to_z-of_z}
 use Rattle.cnf_theory.specs.Literals.{integer, signed}
 use Rattle.answers.proofs.Answering.{kept_none, named_more, tried_more}

@@ -1,5 +1,5 @@
 -- One gate after another is decided; the gates marked are the set.
-use Rattle.std.proofs.Common.{◌≡◌, ℕ, ◌+◌, ◌<◌, ◌≤◌, Bool, true, false, List, length, take, set, ℤ, pos, sym, ap, ◌∙◌, subst, arith, length-set, get_or-set_same, w32, SFits, rules}
+use Rattle.std.proofs.Common.{◌≡◌, ℕ, ◌+◌, ◌<◌, ◌≤◌, Bool, true, List, length, take, set, ℤ, pos, sym, ap, ◌∙◌, subst, arith, length-set, get_or-set_same, w32, SFits, rules}
 use Rattle.std.proofs.lemmas.Bool.{leb-true}
 use Rattle.std.proofs.lemmas.Int.{to_z-of_z}
 use Rattle.diagnosis.specs.Marked.{marked}

@@ -1,5 +1,5 @@
 -- The fewest marks first, and then the lowest set with so many.
-use Rattle.std.proofs.Common.{◌≡◌, ℕ, suc, ◌≤◌, sym, ap, ◌∙◌, subst, arith}
+use Rattle.std.proofs.Common.{ℕ, suc, sym, ap, ◌∙◌, subst, arith}
 use Rattle.cnf_theory.specs.Variables.{count_variable}
 use Rattle.answers.specs.Loaded.{SomeOff, Found}
 use Rattle.answers.proofs.Answering.{kept_both, last_below, found_kept}

@@ -1,5 +1,5 @@
 -- What was asked, a solver filled, and the first set that its rows mark.
-use Rattle.std.proofs.Common.{◌≡◌, ℕ, ◌<◌, ◌≤◌, length, Some, None, sym, ◌∙◌, subst, subst₂, arith}
+use Rattle.std.proofs.Common.{ℕ, ◌≤◌, length, Some, None, sym, ◌∙◌, subst, subst₂, arith}
 use Rattle.std.proofs.lemmas.Bool.{cond-true}
 use Rattle.circuit.specs.Held.{circuit_of}
 use Rattle.testlog.specs.Held.{tests_of}

@@ -1,5 +1,5 @@
 -- One gate more, from the last to the first.
-use Rattle.std.proofs.Common.{◌≡◌, ℕ, ◌+◌, ◌-◌, ◌*◌, ◌<◌, Bool, cond, length, get_or, sym, ap, ◌∙◌, arith}
+use Rattle.std.proofs.Common.{ℕ, ◌+◌, ◌-◌, ◌*◌, Bool, length, ap, ◌∙◌, arith}
 use Rattle.cnf_theory.specs.Variables.{forced_variable}
 use Rattle.lister.specs.Readings.{told, Readable}
 use Rattle.lister.proofs.ReadingBytes.{all_here, reading_more, reading_none, reading_all, byte_few, byte_of, bit_few}

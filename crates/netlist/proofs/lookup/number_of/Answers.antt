@@ -1,4 +1,4 @@
-use Rattle.std.proofs.Common.{◌≡◌, ℕ, List, sym, ap, ◌∙◌}
+use Rattle.std.proofs.Common.{ℕ, List, sym, ap, ◌∙◌}
 use Rattle.netlist_text.specs.Netlists.{same_name}
 use Rattle.netlist.proofs.Found.{find_here, find_more, find_all}
 use Rattle.netlist.proofs.lookup.number_of.Goals as goal

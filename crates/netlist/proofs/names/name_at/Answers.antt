@@ -1,4 +1,4 @@
-use Rattle.std.proofs.Common.{◌≡◌, ℕ, List, Some, ap, ◌∙◌}
+use Rattle.std.proofs.Common.{ℕ, List, Some, ap, ◌∙◌}
 use Rattle.netlist.proofs.Found.{name_missing, name_here}
 use Rattle.netlist.proofs.names.name_at.Goals as goal
 

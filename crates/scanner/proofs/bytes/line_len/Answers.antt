@@ -1,4 +1,4 @@
-use Rattle.std.proofs.Common.{refl, arith, eq-eqb, ne_eqb}
+use Rattle.std.proofs.Common.{arith, eq-eqb, ne_eqb}
 use Rattle.netlist_text.proofs.Lexing.{line_len_more, line_len_stop, line_len_all}
 use Rattle.scanner.proofs.bytes.line_len.Goals as goal
 

@@ -1,4 +1,4 @@
-use Rattle.std.proofs.Common.{◌≡◌, List, [], ◌∷◌, ap, ◌∙◌}
+use Rattle.std.proofs.Common.{ap, ◌∙◌}
 use Rattle.netlist_text.specs.Statements.{names, declared}
 use Rattle.scanner.specs.Named.{name_of}
 use Rattle.scanner.specs.Stepped.{ahead}

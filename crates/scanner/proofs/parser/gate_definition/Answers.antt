@@ -1,7 +1,7 @@
-use Rattle.std.proofs.Common.{◌≡◌, ℕ, true, cond, List, [], ◌∷◌, Some, None, Option, sym, refl, ap, ◌∙◌, rules}
+use Rattle.std.proofs.Common.{◌≡◌, ℕ, cond, List, ◌∷◌, Some, None, sym, ap, ◌∙◌, rules}
 use Rattle.std.proofs.lemmas.Bool.{cond-true}
 use Rattle.netlist_text.specs.Words.{word, sign}
-use Rattle.netlist_text.specs.Statements.{Name, gate, is_name, kind_of, names, defined, definition}
+use Rattle.netlist_text.specs.Statements.{gate, is_name, kind_of, names, defined, definition}
 use Rattle.scanner.specs.Named.{name_of}
 use Rattle.scanner.specs.Stepped.{ahead}
 use Rattle.scanner.specs.Parsed.{names_of}

@@ -1,5 +1,5 @@
 -- Each three takes one literal more off the chain.
-use Rattle.std.proofs.Common.{◌≡◌, ◌+◌, ◌-◌, ◌≤◌, length, get_or, drop, pos, sym, refl, ap, ◌∙◌, arith, lit≤, w32, SFits, rules}
+use Rattle.std.proofs.Common.{◌≡◌, ◌+◌, ◌-◌, length, get_or, drop, pos, sym, refl, ap, ◌∙◌, arith, lit≤, w32, SFits, rules}
 use Rattle.std.proofs.lemmas.Int.{to_z-of_z}
 use Rattle.std.proofs.lemmas.Bool.{and_from, cond-false, lt-leb}
 use Rattle.solver.specs.Rows.{named, holds}

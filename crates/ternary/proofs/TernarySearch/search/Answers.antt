@@ -1,5 +1,5 @@
 -- The first turn, what each turn does with what it found, and why the search ends.
-use Rattle.std.proofs.Common.{◌≡◌, ℕ, true, false, length, get_or, pos, neg_ℤ, ap, ◌∙◌, subst, w32, SFits, to_z, of_z, rules}
+use Rattle.std.proofs.Common.{◌≡◌, ℕ, length, get_or, pos, neg_ℤ, ap, ◌∙◌, subst, w32, SFits, to_z, of_z, rules}
 use Rattle.std.proofs.lemmas.Int.{to_z-of_z}
 use Rattle.std.proofs.lemmas.Bool.{true≢false}
 use Rattle.solver.specs.Rows.{all_named}

@@ -1,5 +1,5 @@
 -- One assumed literal more is true, or it is a conflict or forced.
-use Rattle.std.proofs.Common.{◌≡◌, true, false, length, get_or, ℤ, pos, sym, ◌∙◌, subst, take_all, w32, SFits, rules}
+use Rattle.std.proofs.Common.{◌≡◌, true, length, get_or, ℤ, pos, sym, ◌∙◌, subst, take_all, w32, SFits, rules}
 use Rattle.std.proofs.lemmas.Int.{to_z-of_z}
 use Rattle.std.proofs.lemmas.Bool.{false≢true}
 use Rattle.solver.specs.Rows.{named, holds, all_true}

@@ -1,4 +1,4 @@
-use Rattle.std.proofs.Common.{◌≡◌, ◌/◌, ◌%◌, ◌^◌, eqb, sym, ap, ◌∙◌}
+use Rattle.std.proofs.Common.{◌/◌, ◌%◌, ◌^◌, eqb, sym, ap, ◌∙◌}
 use lib.Bits.{bit_and}
 use Rattle.test_format.proofs.BitAt.{bit_in, bit_past}
 use Rattle.testlog.proofs.bits.bit_at.Goals as goal

@@ -1,4 +1,4 @@
-use Rattle.std.proofs.Common.{◌≡◌, ℕ, ◌+◌, ◌≤◌, cond, take, sym, refl, ap, ◌∙◌, arith}
+use Rattle.std.proofs.Common.{ℕ, cond, refl, ap, arith}
 use Rattle.test_format.specs.Packing.{unpack}
 use Rattle.test_format.specs.Records.{ones}
 use Rattle.test_format.proofs.BitAt.{ones_more}

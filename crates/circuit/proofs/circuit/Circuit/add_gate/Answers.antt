@@ -1,6 +1,6 @@
 use Rattle.std.proofs.Common.{◌≡◌, ◌+◌, ◌≤◌, true, List, [], ◌∷◌, ◌++◌, map, length, vec_items, vec_len, sym, refl, ap, ◌∙◌, subst, zero-add, arith}
-use Rattle.std.proofs.lemmas.List.{length-map, length_push, map_push}
-use Rattle.circuit.specs.Circuits.{Gate, Circuit, gate_of, fits, wired}
+use Rattle.std.proofs.lemmas.List.{length-map, map_push}
+use Rattle.circuit.specs.Circuits.{Gate, gate_of, fits, wired}
 use Rattle.circuit.specs.Held.{circuit_of}
 use Rattle.circuit.proofs.Wiring.{wired_push, all_there_more, gate_full, gate_unfit, gate_admitted}
 use Rattle.circuit.proofs.circuit.Circuit.add_gate.Goals as goal

@@ -1,4 +1,4 @@
-use Rattle.std.proofs.Common.{◌≡◌, Bool, length, sym, ◌∙◌}
+use Rattle.std.proofs.Common.{Bool, length, sym, ◌∙◌}
 use Rattle.circuit.specs.declared.gate.Signal.{Signal}
 use Rattle.circuit.specs.Circuits.{there}
 use Rattle.circuit.specs.Held.{circuit_of}

@@ -1,5 +1,5 @@
 -- As many places are taken as are counted.
-use Rattle.std.proofs.Common.{◌≡◌, sym, arith}
+use Rattle.std.proofs.Common.{sym, arith}
 use Rattle.std.proofs.lemmas.List.{length-take-le}
 use Rattle.gate_set.proofs.gate_set.GateSet.len.Goals as goal
 

@@ -1,16 +1,14 @@
-use Rattle.std.proofs.Common.{◌≡◌, ℕ, ◌+◌, Bool, true, false, cond, ◌&&◌, ltb, List, [], ◌∷◌, ◌++◌, map, length, is_some, Some, None, Ok, Err, vec_items, vec_len, Option, sym, refl, ap, ◌∙◌, subst, arith}
-use Rattle.std.specs.Option.{option_map}
+use Rattle.std.proofs.Common.{◌≡◌, ℕ, ◌+◌, Bool, true, false, ◌&&◌, ltb, List, [], ◌∷◌, ◌++◌, map, length, is_some, Some, None, Ok, vec_items, sym, refl, ap, ◌∙◌, subst, arith}
 use Rattle.std.proofs.lemmas.List.{length-map, length_push, map_push}
-use Rattle.std.proofs.lemmas.Bool.{cond-true, cond-false, and_from}
-use Rattle.circuit.specs.declared.gate.Signal.{Signal}
+use Rattle.std.proofs.lemmas.Bool.{and_from}
 use Rattle.circuit.specs.Kinds.{takes}
 use Rattle.circuit.specs.Lists.{all}
 use Rattle.circuit.specs.Listed.{listed}
 use Rattle.circuit.specs.Circuits.{Circuit, Gate, there, fits, with_gate}
 use Rattle.circuit.specs.Held.{circuit_of, admits_gate}
 use Rattle.netlist_text.specs.Statements.{Name}
-use Rattle.netlist_text.specs.Netlists.{Netlist, Draft, signal, signals}
-use Rattle.netlist_text.specs.Meaning.{ask, gate_added, connected}
+use Rattle.netlist_text.specs.Netlists.{signal, signals}
+use Rattle.netlist_text.specs.Meaning.{gate_added}
 use Rattle.netlist_text.proofs.Signals.{signals_there}
 use Rattle.scanner.specs.Named.{name_of}
 use Rattle.scanner.specs.Parsed.{names_of}

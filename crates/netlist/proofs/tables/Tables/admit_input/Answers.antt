@@ -1,12 +1,10 @@
-use Rattle.std.proofs.Common.{◌≡◌, true, false, cond, ltb, List, [], ◌∷◌, ◌++◌, map, is_some, Ok, vec_items, sym, refl, ap, ◌∙◌}
+use Rattle.std.proofs.Common.{◌≡◌, true, false, ltb, [], ◌∷◌, ◌++◌, map, is_some, Ok, vec_items, sym, ap, ◌∙◌}
 use Rattle.std.proofs.lemmas.List.{map_push}
-use Rattle.std.proofs.lemmas.Bool.{cond-true}
-use Rattle.circuit.specs.Circuits.{Circuit, with_input}
+use Rattle.circuit.specs.Circuits.{with_input}
 use Rattle.circuit.specs.Held.{circuit_of}
-use Rattle.netlist_text.specs.Statements.{Name}
-use Rattle.netlist_text.specs.Netlists.{Draft, signal}
+use Rattle.netlist_text.specs.Netlists.{signal}
 use Rattle.scanner.specs.Named.{name_of}
-use Rattle.netlist.specs.Drafts.{draft_of, output_line_of}
+use Rattle.netlist.specs.Drafts.{draft_of}
 use Rattle.netlist.proofs.Admitted.{input_asked}
 use Rattle.netlist.proofs.tables.Tables.admit_input.Goals as goal
 

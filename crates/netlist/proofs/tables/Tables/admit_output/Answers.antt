@@ -1,7 +1,7 @@
-use Rattle.std.proofs.Common.{◌≡◌, true, false, ltb, List, [], ◌∷◌, ◌++◌, map, length, Ok, vec_items, vec_len, sym, refl, ap, ◌∙◌, arith}
+use Rattle.std.proofs.Common.{◌≡◌, true, false, List, [], ◌∷◌, ◌++◌, map, length, Ok, vec_items, sym, ap, ◌∙◌, arith}
 use Rattle.std.proofs.lemmas.List.{length-map, map_push}
 use Rattle.std.proofs.lemmas.Bool.{lt-ltb, le-ltb}
-use Rattle.netlist_text.specs.Netlists.{Draft, OutputLine}
+use Rattle.netlist_text.specs.Netlists.{OutputLine}
 use Rattle.scanner.specs.Named.{name_of}
 use Rattle.netlist.specs.Drafts.{draft_of, output_line_of}
 use Rattle.netlist.proofs.Admitted.{output_asked}

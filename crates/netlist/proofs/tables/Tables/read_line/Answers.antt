@@ -1,4 +1,4 @@
-use Rattle.std.proofs.Common.{◌≡◌, true, false, Some, None, sym, refl, ap, ◌∙◌, rules}
+use Rattle.std.proofs.Common.{◌≡◌, true, false, Some, None, sym, rules}
 use Rattle.netlist_text.specs.Words.{skipped, stray, lexemes}
 use Rattle.netlist_text.specs.Statements.{statement, input, output, gate}
 use Rattle.scanner.specs.Named.{name_of}

@@ -1,9 +1,8 @@
-use Rattle.std.proofs.Common.{◌≡◌, Bool, true, false, Some, Ok, Option, sym, refl, ap, ◌∙◌}
+use Rattle.std.proofs.Common.{◌≡◌, Some, Ok, sym, refl, ap, ◌∙◌}
 use Rattle.std.proofs.lemmas.Bool.{both_ways}
-use Rattle.circuit.specs.declared.gate.Signal.{Signal}
 use Rattle.circuit.specs.Circuits.{Circuit}
-use Rattle.netlist_text.specs.Netlists.{Netlist, OutputLine, signal}
-use Rattle.netlist_text.specs.Meaning.{shown, shows}
+use Rattle.netlist_text.specs.Netlists.{signal}
+use Rattle.netlist_text.specs.Meaning.{shown}
 use Rattle.scanner.specs.Named.{name_of}
 use Rattle.netlist.specs.declared.tables.Tables.{Tables}
 use Rattle.netlist.specs.Drafts.{draft_of}

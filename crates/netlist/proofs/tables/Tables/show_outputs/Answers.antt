@@ -1,11 +1,10 @@
-use Rattle.std.proofs.Common.{◌≡◌, ℕ, ◌+◌, ◌<◌, ◌≤◌, List, map, length, get_or, drop, Ok, Err, vec_items, vec_len, sym, refl, ap, ◌∙◌, arith, rules}
+use Rattle.std.proofs.Common.{◌≡◌, ◌+◌, ◌<◌, map, length, drop, Err, vec_items, vec_len, sym, ap, ◌∙◌, arith}
 use Rattle.std.proofs.lemmas.Result.{err_from_is_err_and}
 use Rattle.std.proofs.lemmas.List.{length_push}
 use Rattle.netlist_text.specs.Netlists.{Netlist, signal}
-use Rattle.netlist_text.specs.Meaning.{shown, with_outputs}
+use Rattle.netlist_text.specs.Meaning.{with_outputs}
 use Rattle.netlist_text.proofs.Taken.{shown_ok}
 use Rattle.scanner.specs.Named.{name_of}
-use Rattle.netlist.specs.declared.tables.OutputLine.{OutputLine as HeldOutputLine}
 use Rattle.netlist.specs.Drafts.{draft_of, output_line_of}
 use Rattle.netlist.specs.Faults.{answered, refusal_of}
 use Rattle.netlist.proofs.Shown.{outputs_more, outputs_refused, outputs_all}

@@ -1,5 +1,5 @@
 -- The threes below say of the variables in use here what the clause says.
-use Rattle.std.proofs.Common.{◌≡◌, ◌+◌, ◌-◌, ◌≤◌, true, length, sym, refl, ap, arith}
+use Rattle.std.proofs.Common.{◌≡◌, ◌+◌, ◌≤◌, true, length, sym, refl, ap, arith}
 use Rattle.solver.specs.Rows.{all_named, price}
 use Rattle.solver.proofs.Rows.{all_named_up}
 use Rattle.solver.proofs.Refusals.{add_accepted}

@@ -1,10 +1,10 @@
-use Rattle.std.proofs.Common.{◌≡◌, ◌<◌, ◌≤◌, List, [], ◌∷◌, ◌++◌, map, length, is_err, Ok, Err, vec_items, vec_len, sym, ap, ◌∙◌, arith}
+use Rattle.std.proofs.Common.{◌≡◌, map, length, is_err, Err, vec_items, sym, ap, ◌∙◌, arith}
 use Rattle.std.specs.Option.{option_map}
 use Rattle.std.specs.Result.{result_err}
 use Rattle.std.proofs.lemmas.List.{length-map, map_push}
 use Rattle.std.proofs.lemmas.Result.{err_from_is_err_and, IfOk-from_err}
 use Rattle.circuit.specs.Held.{circuit_of}
-use Rattle.test_format.specs.Records.{recorded, refused, joined_by}
+use Rattle.test_format.specs.Records.{joined_by}
 use Rattle.test_format.proofs.Packed.{all_bytes}
 use Rattle.test_format.proofs.Taken.{taken_is_written}
 use Rattle.test_format.proofs.Holding.{recorded_full, recorded_joined}

@@ -1,6 +1,5 @@
-use Rattle.std.proofs.Common.{◌≡◌, ◌-◌, ◌<◌, ◌≤◌, Bool, ◌⊎◌, List, length, take, set, Option, sym, refl, ap, ◌∙◌, inl, inr, arith}
+use Rattle.std.proofs.Common.{◌≡◌, ◌-◌, ◌<◌, Bool, ◌⊎◌, List, length, Option, sym, refl, ap, ◌∙◌, inl, inr, arith}
 use Rattle.std.proofs.lemmas.List.{length-take-le}
-use Rattle.circuit.specs.Tests.{Test}
 use Rattle.test_format.proofs.Holding.{no_output, an_output, reading_at, take_of_set}
 use Rattle.testlog.specs.Held.{test_of}
 use Rattle.testlog.proofs.test.Test.amend.Goals as goal
