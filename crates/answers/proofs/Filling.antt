@@ -1,6 +1,6 @@
 -- From clauses that were handed over to a solver that holds them.
 use Rattle.std.proofs.Common.{◌≡◌, ℕ, zero, suc, ◌+◌, ◌≤◌, max, true, ◌||◌, List, [], ◌∷◌, ◌++◌, map, length, ℤ, sym, refl, ap, ◌∙◌, subst, arith}
-use Rattle.std.specs.List.{AllByRecursion as All}
+use Rattle.std.specs.List.{AllByRecursion}
 use Rattle.std.proofs.lemmas.List.{length-map}
 use Rattle.std.proofs.lemmas.Bool.{and_from, and_parts, lt-ltb, le-leb}
 use Rattle.solver.specs.Lists.{all}
@@ -14,7 +14,7 @@ use Rattle.answers.specs.Loaded.{Filled, Loaded, Fewest}
 
 -- each literal's variable is in 1 to V
 abbrev pub Within : ℕ → List Clause → Type 0
-Within V cs = All (All (λ (x : Literal). (1 ≤ variable_of x) × (variable_of x ≤ V))) cs
+Within V cs = AllByRecursion (AllByRecursion (λ (x : Literal). (1 ≤ variable_of x) × (variable_of x ≤ V))) cs
 
 -- ── sizes, by the clauses and by what is handed over ──
 pub prices_handed : (cs : List Clause) → prices (integers cs) ≡ prices cs
@@ -36,7 +36,7 @@ module _ (V : ℕ) (row : Row) where
   literal_same (negative zero) u = absurd (omega (arith, u.0))
   literal_same (negative (suc v)) u = refl
 
-  clause_same : (c : Clause) → All (λ (x : Literal). (1 ≤ variable_of x) × (variable_of x ≤ V)) c → some_true row (map integer c) ≡ some_true_in row c
+  clause_same : (c : Clause) → AllByRecursion (λ (x : Literal). (1 ≤ variable_of x) × (variable_of x ≤ V)) c → some_true row (map integer c) ≡ some_true_in row c
   clause_same [] u = refl
   clause_same (x ∷ c) u = λ j. literal_same x u.0 j || clause_same c u.1 j
 
@@ -54,7 +54,7 @@ literal_named V (positive v) u = and_from _ _ (lt-ltb 0 v u.0) (le-leb v V u.1)
 literal_named V (negative zero) u = absurd (omega (arith, u.0))
 literal_named V (negative (suc v)) u = and_from _ _ (lt-ltb 0 (suc v) u.0) (le-leb (suc v) V u.1)
 
-clause_named : (V : ℕ) (c : Clause) → All (λ (x : Literal). (1 ≤ variable_of x) × (variable_of x ≤ V)) c → all_named V (map integer c) ≡ true
+clause_named : (V : ℕ) (c : Clause) → AllByRecursion (λ (x : Literal). (1 ≤ variable_of x) × (variable_of x ≤ V)) c → all_named V (map integer c) ≡ true
 clause_named V [] u = refl
 clause_named V (x ∷ c) u = and_from _ _ (literal_named V x u.0) (clause_named V c u.1)
 

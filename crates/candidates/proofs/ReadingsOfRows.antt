@@ -1,6 +1,6 @@
 -- The values that a row of the formula forces in a test, read as a byte, bring out the test.
 use Rattle.std.proofs.Common.{◌≡◌, ℕ, zero, suc, ◌+◌, Bool, true, List, [], ◌∷◌, ◌++◌, length, Some, sym, ap, ◌∙◌, add-zero, add-suc, suc-add, zero-add, arith}
-use Rattle.std.specs.List.{slice_get, AllByRecursion as All}
+use Rattle.std.specs.List.{slice_get, AllByRecursion}
 use Rattle.circuit.specs.Circuits.{Circuit, Sound}
 use Rattle.circuit.specs.Tests.{Test, FitsTest}
 use Rattle.diagnosis.specs.Sets.{member}
@@ -22,7 +22,7 @@ forced_in c N ρ t g = ρ (forced_variable (base c N t) c.inputs g)
 
 -- the row's own marks and forced values bring out each test, the tests being numbered from n on
 pub row_brings_out_from :
-    (c : Circuit) (N n : ℕ) (ts : List Test) (ρ : Row) → Sound c → All (FitsTest c) ts → Holds ρ (tests_clauses c N n ts)
+    (c : Circuit) (N n : ℕ) (ts : List Test) (ρ : Row) → Sound c → AllByRecursion (FitsTest c) ts → Holds ρ (tests_clauses c N n ts)
     → (t : ℕ) (test : Test) → slice_get ts t ≡ Some test → brings_out c ρ (forced_in c N ρ (n + t)) test ≡ true
 row_brings_out_from c N n [] ρ sound fit h t test is = let z : ◌≡◌ {A = ℕ} 0 1 = cc in absurd (omega arith)
 row_brings_out_from c N n (u ∷ ts) ρ sound fit h zero test is =

@@ -1,6 +1,6 @@
 -- A row of the clauses added has the marks of a candidate, and each candidate has such a row.
 use Rattle.std.proofs.Common.{◌≡◌, ℕ, ◌≤◌, false, List, [], ◌∷◌, length, sym, ◌∙◌, subst, ⊎_elim, arith}
-use Rattle.std.specs.List.{AllByRecursion as All}
+use Rattle.std.specs.List.{AllByRecursion}
 use Rattle.circuit.specs.Circuits.{Circuit}
 use Rattle.circuit.specs.Tests.{Test}
 use Rattle.diagnosis.specs.Sets.{member, IsSet, Within}
@@ -18,7 +18,7 @@ use Rattle.candidates.specs.Added.{added}
 use Rattle.candidates.specs.CandidateLaws.{last_count, Given, RowsAreCandidates, NoRowNoCandidate}
 use Rattle.candidates.proofs.Barred.{Covers, barred_none_covered, none_covered_barred}
 
-pub each_is_set : (n : ℕ) (given : List (List ℕ)) → All (IsSet n) given → (D : List ℕ) → In D given → IsSet n D
+pub each_is_set : (n : ℕ) (given : List (List ℕ)) → AllByRecursion (IsSet n) given → (D : List ℕ) → In D given → IsSet n D
 each_is_set n [] sets D d = absurd d
 each_is_set n (E ∷ given) sets D d = ⊎_elim (λ e. subst (λ (X : List ℕ). IsSet n X) (sym e) sets.0) (λ r. each_is_set n given sets.1 D r) d
 

@@ -1,6 +1,6 @@
 -- The clauses added have only variables of the formula.
 use Rattle.std.proofs.Common.{ℕ, suc, ◌≤◌, List, [], ◌∷◌, map, length, mul-suc, arith}
-use Rattle.std.specs.List.{AllByRecursion as All}
+use Rattle.std.specs.List.{AllByRecursion}
 use Rattle.std.proofs.ByRecursion.{All-append}
 use Rattle.diagnosis.specs.Sets.{Ascends, IsSet}
 use Rattle.cnf_theory.specs.Variables.{variables}
@@ -13,7 +13,7 @@ pub barring_within : (V a n : ℕ) (S : List ℕ) → 1 ≤ a → n ≤ V → As
 barring_within V a n [] low high asc = tt
 barring_within V a n (x ∷ S) low high asc = ((omega arith, omega arith), barring_within V (suc x) n S (omega arith) high asc.2)
 
-pub barred_within : (V n : ℕ) (given : List (List ℕ)) → n ≤ V → All (IsSet n) given → Each (UpTo V) (map barring given)
+pub barred_within : (V n : ℕ) (given : List (List ℕ)) → n ≤ V → AllByRecursion (IsSet n) given → Each (UpTo V) (map barring given)
 barred_within V n [] high sets = tt
 barred_within V n (S ∷ given) high sets = (barring_within V 1 n S (omega arith) high sets.0, barred_within V n given high sets.1)
 

@@ -8,7 +8,7 @@
 --   AddedWithinVariables   each literal's variable is one of the formula's
 --   RowBringsOut           the values that a row forces, read as a byte, bring out the test
 use Rattle.std.specs.Prelude.{◌≡◌, ℕ, suc, ◌<◌, ◌≤◌, true, false, ◌↔◌, List, length, Some, ◌≢◌}
-use Rattle.std.specs.List.{slice_get, AllByRecursion as All}
+use Rattle.std.specs.List.{slice_get, AllByRecursion}
 use Rattle.circuit.specs.Circuits.{Circuit, Sound}
 use Rattle.circuit.specs.Tests.{Test, FitsTest}
 use Rattle.diagnosis.specs.Sets.{member, IsSet}
@@ -28,8 +28,8 @@ last_count c N k = count_variable (length c.gates) N (length c.gates) (suc k)
 
 pub record Given (c : Circuit) (ts : List Test) (given : List (List ℕ)) : Type 0 where
   pub circuit : Sound c
-  pub tests : All (FitsTest c) ts
-  pub sets : All (IsSet (length c.gates)) given
+  pub tests : AllByRecursion (FitsTest c) ts
+  pub sets : AllByRecursion (IsSet (length c.gates)) given
 
 pub record FirstCandidate (c : Circuit) (ts : List Test) (N : ℕ) (given : List (List ℕ)) (S : List ℕ) : Type 0 where
   pub candidate : CandidateFor c ts N given S
@@ -55,9 +55,9 @@ NoRowNoCandidate =
 abbrev pub AddedWithinVariables : Type 0
 AddedWithinVariables =
     (c : Circuit) (ts : List Test) (N : ℕ) (given : List (List ℕ)) → Given c ts given
-    → All (All (λ (x : Literal). (1 ≤ variable_of x) × (variable_of x ≤ variables c ts N))) (added c ts N given)
+    → AllByRecursion (AllByRecursion (λ (x : Literal). (1 ≤ variable_of x) × (variable_of x ≤ variables c ts N))) (added c ts N given)
 
 abbrev pub RowBringsOut : Type 0
 RowBringsOut =
-    (c : Circuit) (ts : List Test) (N : ℕ) (ρ : Row) → Sound c → All (FitsTest c) ts → Holds ρ (formula c ts N) → (S : List ℕ) → marked ρ (length c.gates) ≡ S
+    (c : Circuit) (ts : List Test) (N : ℕ) (ρ : Row) → Sound c → AllByRecursion (FitsTest c) ts → Holds ρ (formula c ts N) → (S : List ℕ) → marked ρ (length c.gates) ≡ S
     → (t : ℕ) (test : Test) → slice_get ts t ≡ Some test → brings_out c (member S) (forced_by S (reading S (λ g. ρ (forced_variable (base c N t) c.inputs g)))) test ≡ true

@@ -1,6 +1,6 @@
 -- A test's clauses, one output more at a time, and how many they are; and what is known of a circuit and of a test that are held.
 use Rattle.std.proofs.Common.{◌≡◌, ℕ, zero, suc, ◌+◌, ◌<◌, ◌≤◌, min, Bool, List, [], ◌∷◌, ◌++◌, map, length, get_or, take, vec_items, vec_len, Option, sym, refl, ap, ◌∙◌, subst, append_assoc, append-nil, add-zero, arith, length-append, length-take}
-use Rattle.std.specs.List.{AllByRecursion as All}
+use Rattle.std.specs.List.{AllByRecursion}
 use Rattle.std.proofs.lemmas.List.{take_more, length-take-le, length-map}
 use Rattle.circuit.specs.declared.gate.Signal.{Signal}
 use Rattle.circuit.specs.declared.gate.Gate.{Gate as HeldGate}
@@ -88,17 +88,17 @@ sound_held c =
       shown = ap (λ n. all (there c.inputs n) (vec_items c.outputs)) g ∙ c.shown;
     }
 
-pub gates_fair : (c : HeldCircuit) (gs : List HeldGate) → map gate_of gs ≡ (circuit_of c).gates → All Fair gs × (length gs ≤ 256)
+pub gates_fair : (c : HeldCircuit) (gs : List HeldGate) → map gate_of gs ≡ (circuit_of c).gates → AllByRecursion Fair gs × (length gs ≤ 256)
 gates_fair c gs e =
     let s = sound_held c in
     let n : length gs ≤ 256 = let p = sym (length-map gs gate_of) ∙ ap length e in let q = s.few_gates in omega arith in
     (all_fair c.inputs 0 gs s.few_inputs (omega arith) (ap (wired c.inputs 0) e ∙ s.in_order), n)
 
-pub outputs_near : (c : HeldCircuit) (os : List Signal) → os ≡ (circuit_of c).outputs → All Near os × (length os ≤ 64)
+pub outputs_near : (c : HeldCircuit) (os : List Signal) → os ≡ (circuit_of c).outputs → AllByRecursion Near os × (length os ≤ 64)
 outputs_near c os e =
     let s = sound_held c in
     let n : length os ≤ 64 = let p = ap length e in let q = s.few_outputs in omega arith in
-    (subst (All Near) (sym e) (all_near c.inputs (length (circuit_of c).gates) (circuit_of c).outputs s.few_inputs s.few_gates s.shown), n)
+    (subst (AllByRecursion Near) (sym e) (all_near c.inputs (length (circuit_of c).gates) (circuit_of c).outputs s.few_inputs s.few_gates s.shown), n)
 
 pub inputs_few : (t : HeldTest) → length (test_of t).inputs ≤ 64
 inputs_few t = let a = length-take t.input_count t.inputs in let b = t.few_inputs in omega arith

@@ -2,7 +2,7 @@
 use Rattle.std.proofs.Common.{◌≡◌, ℕ, zero, suc, ◌+◌, ◌*◌, ◌<◌, ◌≤◌, Bool, true, false, not, leb, ◌⊎◌, List, [], ◌∷◌, ◌++◌, map, length, get_or, take, set, ℤ, sym, refl, ap, ◌∙◌, ⊎_elim, append_assoc, append-nil, le_of_suc-le-suc, not-suc-le-zero, add-zero, arith, length-append}
 use mathlib.Core.Bool.{false≢true}
 use mathlib.Core.List.{map-append}
-use Rattle.std.specs.List.{AllByRecursion as All}
+use Rattle.std.specs.List.{AllByRecursion}
 use Rattle.std.proofs.lemmas.List.{take_more, take_more_set, length-take-le, length-map}
 use Rattle.std.proofs.lemmas.Bool.{and_parts, leb-true, eqb-true}
 use Rattle.circuit.specs.declared.kind.Kind.{Kind}
@@ -20,7 +20,7 @@ use Rattle.cnf_theory.specs.Gates.{conjunction, function, selection, gate_clause
 use Rattle.cnf_theory.specs.Formula.{gates_clauses}
 use Rattle.cnf.specs.Code.{Small, Near, Fair, variables_of}
 
-pub all_at : {X : Type 0} (P : X → Type 0) (xs : List X) (i : ℕ) (d : X) → i < length xs → All P xs → P (get_or xs i d)
+pub all_at : {X : Type 0} (P : X → Type 0) (xs : List X) (i : ℕ) (d : X) → i < length xs → AllByRecursion P xs → P (get_or xs i d)
 all_at P [] i d l h = absurd (not-suc-le-zero l)
 all_at P (x ∷ xs) zero d l h = h.0
 all_at P (x ∷ xs) (suc i) d l h = all_at P xs i d (le_of_suc-le-suc l) h.1
@@ -39,11 +39,11 @@ near_from : (I m : ℕ) (s : Signal) → I ≤ 64 → m ≤ 256 → there I m s 
 near_from I m (signal.Input i) a b t = let p = and_parts (leb 1 i) (leb i I) t in let q = leb-true i I p.1 in (leb-true 1 i p.0, omega arith)
 near_from I m (signal.Gate g) a b t = let p = and_parts (leb 1 g) (leb g m) t in let q = leb-true g m p.1 in (leb-true 1 g p.0, omega arith)
 
-pub all_near : (I m : ℕ) (ss : List Signal) → I ≤ 64 → m ≤ 256 → all (there I m) ss ≡ true → All Near ss
+pub all_near : (I m : ℕ) (ss : List Signal) → I ≤ 64 → m ≤ 256 → all (there I m) ss ≡ true → AllByRecursion Near ss
 all_near I m [] a b t = tt
 all_near I m (s ∷ ss) a b t = let p = and_parts (there I m s) (all (there I m) ss) t in (near_from I m s a b p.0, all_near I m ss a b p.1)
 
-pub all_fair : (I m : ℕ) (gs : List HeldGate) → I ≤ 64 → m + length gs ≤ 256 → wired I m (map gate_of gs) ≡ true → All Fair gs
+pub all_fair : (I m : ℕ) (gs : List HeldGate) → I ≤ 64 → m + length gs ≤ 256 → wired I m (map gate_of gs) ≡ true → AllByRecursion Fair gs
 all_fair I m [] a b w = tt
 all_fair I m (g ∷ gs) a b w =
     let p = and_parts (fits I m (gate_of g)) (wired I (suc m) (map gate_of gs)) w in
@@ -56,7 +56,7 @@ small_one B I (signal.Input i) b j n = (omega arith, omega arith)
 small_one B I (signal.Gate zero) b j n = absurd (omega (arith, n.0))
 small_one B I (signal.Gate (suc g)) b j n = (omega arith, omega arith)
 
-pub small_variables : (B I : ℕ) (ss : List Signal) → B ≤ 90000 → I ≤ 64 → All Near ss → All Small (variables_of B I ss)
+pub small_variables : (B I : ℕ) (ss : List Signal) → B ≤ 90000 → I ≤ 64 → AllByRecursion Near ss → AllByRecursion Small (variables_of B I ss)
 small_variables B I [] b j n = tt
 small_variables B I (s ∷ ss) b j n = (small_one B I s b j n.0, small_variables B I ss b j n.1)
 

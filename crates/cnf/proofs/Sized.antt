@@ -1,6 +1,6 @@
 -- The tally of a formula that is written counts all of it: no number is too large.
 use Rattle.std.proofs.Common.{◌≡◌, ℕ, ◌+◌, ◌^◌, ◌<◌, ◌≤◌, max, List, [], ◌∷◌, map, length, vec_items, vec_len, sym, refl, ◌∙◌, arith}
-use Rattle.std.specs.List.{AllByRecursion as All}
+use Rattle.std.specs.List.{AllByRecursion}
 use Rattle.std.proofs.lemmas.List.{length-map}
 use Rattle.circuit.specs.Circuits.{Circuit, Sound}
 use Rattle.testlog.specs.declared.test.Test.{Test as HeldTest}
@@ -18,7 +18,7 @@ use Rattle.cnf.proofs.Held.{inputs_few}
 pub tests_held : (t : TestTable) → length (tests_of t) ≡ vec_len t.tests
 tests_held t = length-map (vec_items t.tests) test_of ∙ sym t.tests.ok.0
 
-all_few : (ts : List HeldTest) → All FewInputs (map test_of ts)
+all_few : (ts : List HeldTest) → AllByRecursion FewInputs (map test_of ts)
 all_few [] = tt
 all_few (t ∷ ts) = (inputs_few t, all_few ts)
 

@@ -5,7 +5,7 @@
 --   Fair           a gate as a circuit holds it: its kind takes its operands, and these are near
 --   variables_of   the variables of signals
 use Rattle.std.specs.Prelude.{◌≡◌, ℕ, ◌≤◌, true, List, map, length}
-use Rattle.std.specs.List.{AllByRecursion as All}
+use Rattle.std.specs.List.{AllByRecursion}
 use Rattle.circuit.specs.declared.gate.Signal.{Signal}
 use Rattle.circuit.specs.declared.gate.Signal.TheVariants as signal
 use Rattle.circuit.specs.declared.gate.Gate.{Gate as HeldGate}
@@ -28,7 +28,7 @@ Near (signal.Input i) = (1 ≤ i) × (i ≤ 64)
 Near (signal.Gate g) = (1 ≤ g) × (g ≤ 256)
 
 abbrev pub Fair : HeldGate → Type 0
-Fair g = All Near (listed g.operands) × (takes g.kind (length (listed g.operands)) ≡ true)
+Fair g = AllByRecursion Near (listed g.operands) × (takes g.kind (length (listed g.operands)) ≡ true)
 
 abbrev pub variables_of : ℕ → ℕ → List Signal → List ℕ
 variables_of B I ss = map (signal_variable B I) ss

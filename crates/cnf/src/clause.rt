@@ -1,6 +1,6 @@
 // Clauses of one, two and three literals, and of a literal with one for each operand.
 ghost use Rattle.std.specs.Prelude.{◌≡◌, ◌+◌, ◌≤◌, List, [], ◌∷◌, map, length, take};
-ghost use Rattle.std.specs.List.{AllByRecursion as All};
+ghost use Rattle.std.specs.List.{AllByRecursion};
 ghost use Rattle.cnf_theory.specs.Literals.{signed, variable_of, integer, integers};
 ghost use Rattle.cnf.specs.Code.{literal_of, Small};
 
@@ -61,7 +61,7 @@ pub(crate) fn take_three<K: ClauseSink>(sink: &mut K, x: Literal, y: Literal, z:
 
 // A literal and one for each operand, as they are handed over.
 fn long_clause(first: Literal, value: bool, operands: &[usize]) -> [i32; 9]
-    requires sizes { (Small (variable_of (literal_of first))) × ((All Small operands.now) × (length operands.now ≤ 8)) }
+    requires sizes { (Small (variable_of (literal_of first))) × ((AllByRecursion Small operands.now) × (length operands.now ≤ 8)) }
     ensures { take (length operands.now + 1) result ≡ map integer (literal_of first ∷ map (signed value) operands.now) }
 {
     let mut clause = [0; 9];
@@ -80,7 +80,7 @@ pub(crate) fn take_long<K: ClauseSink>(
     operands: &[usize],
 )
     requires ready { K.ClauseSink.ready sink.old }
-    requires sizes { (Small (variable_of (literal_of first))) × ((All Small operands.now) × (length operands.now ≤ 8)) }
+    requires sizes { (Small (variable_of (literal_of first))) × ((AllByRecursion Small operands.now) × (length operands.now ≤ 8)) }
     ensures ready { K.ClauseSink.ready sink.new }
     ensures took { K.ClauseSink.took sink.old (integers ((literal_of first ∷ map (signed value) operands.now) ∷ [])) sink.new }
 {

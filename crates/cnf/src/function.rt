@@ -1,6 +1,6 @@
 // The clauses of a gate's function.
 ghost use Rattle.std.specs.Prelude.{◌≡◌, ℕ, ◌≤◌, Bool, true, false, not, List, [], ◌∷◌, length};
-ghost use Rattle.std.specs.List.{AllByRecursion as All};
+ghost use Rattle.std.specs.List.{AllByRecursion};
 ghost use Rattle.circuit.specs.Kinds.{takes};
 ghost use Rattle.cnf_theory.specs.Literals.{signed, positive, negative, integers};
 ghost use Rattle.cnf_theory.specs.Gates.{conjunction, function};
@@ -20,7 +20,7 @@ fn write_conjunction<K: ClauseSink>(
     operands: &[usize],
 )
     requires ready { K.ClauseSink.ready sink.old }
-    requires sizes { (Small l) × ((All Small operands.now) × (length operands.now ≤ 8)) }
+    requires sizes { (Small l) × ((AllByRecursion Small operands.now) × (length operands.now ≤ 8)) }
     ensures ready { K.ClauseSink.ready sink.new }
     ensures took { K.ClauseSink.took sink.old (integers (conjunction value each l operands.now)) sink.new }
 {
@@ -48,7 +48,7 @@ fn write_parity<K: ClauseSink>(sink: &mut K, odd: bool, l: usize, a: usize, b: u
 // What a gate's kind gives for its operands' values.
 pub(crate) fn write_function<K: ClauseSink>(sink: &mut K, kind: Kind, l: usize, operands: &[usize])
     requires ready { K.ClauseSink.ready sink.old }
-    requires sizes { (Small l) × ((All Small operands.now) × (length operands.now ≤ 8)) }
+    requires sizes { (Small l) × ((AllByRecursion Small operands.now) × (length operands.now ≤ 8)) }
     requires takes { takes kind (length operands.now) ≡ true }
     ensures ready { K.ClauseSink.ready sink.new }
     ensures took { K.ClauseSink.took sink.old (integers (function kind l operands.now)) sink.new }

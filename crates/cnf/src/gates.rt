@@ -1,6 +1,6 @@
 // The clauses of the gates in one test.
 ghost use Rattle.std.specs.Prelude.{◌≡◌, ℕ, suc, ◌+◌, ◌*◌, ◌<◌, ◌≤◌, List, map, length, take};
-ghost use Rattle.std.specs.List.{AllByRecursion as All};
+ghost use Rattle.std.specs.List.{AllByRecursion};
 ghost use Rattle.circuit.specs.Circuits.{gate_of};
 ghost use Rattle.cnf_theory.specs.Literals.{integers};
 ghost use Rattle.cnf_theory.specs.Variables.{signal_variable};
@@ -30,9 +30,9 @@ pub(crate) fn signal_variable(base: usize, inputs: usize, signal: Signal) -> usi
 // The variables of a gate's operands.
 fn operand_variables(base: usize, inputs: usize, operands: &[Signal]) -> [usize; 8]
     requires sizes { (base ≤ 90000) × ((inputs ≤ 64) × (length operands.now ≤ 8)) }
-    requires near { All Near operands.now }
+    requires near { AllByRecursion Near operands.now }
     ensures value { take (length operands.now) result ≡ variables_of base inputs operands.now }
-    ensures small { All Small (variables_of base inputs operands.now) }
+    ensures small { AllByRecursion Small (variables_of base inputs operands.now) }
 {
     let mut variables = [0; 8];
     for (i, operand) in operands.iter().enumerate() {
@@ -122,7 +122,7 @@ fn write_gate_or_pass<K: ClauseSink>(
 pub(crate) fn write_gates<K: ClauseSink>(sink: &mut K, base: usize, inputs: usize, gates: &[Gate])
     requires ready { K.ClauseSink.ready sink.old }
     requires sizes { (base ≤ 90000) × ((inputs ≤ 64) × (length gates.now ≤ 256)) }
-    requires fair { All Fair gates.now }
+    requires fair { AllByRecursion Fair gates.now }
     ensures ready { K.ClauseSink.ready sink.new }
     ensures took { K.ClauseSink.took sink.old (integers (gates_clauses base inputs 1 (map gate_of gates.now))) sink.new }
 {
@@ -134,7 +134,7 @@ pub(crate) fn write_gates<K: ClauseSink>(sink: &mut K, base: usize, inputs: usiz
 // How many clauses the gates have in a test.
 pub(crate) fn gates_clause_count(gates: &[Gate]) -> usize
     requires sizes { length gates.now ≤ 256 }
-    requires fair { All Fair gates.now }
+    requires fair { AllByRecursion Fair gates.now }
     ensures clauses { (B I : ℕ) → length (gates_clauses B I 1 (map gate_of gates.now)) ≡ result }
     ensures few { result ≤ 256 * 13 }
 {

@@ -1,6 +1,6 @@
 // The clauses of one test.
 ghost use Rattle.std.specs.Prelude.{◌≡◌, ℕ, ◌+◌, ◌≤◌, List, length};
-ghost use Rattle.std.specs.List.{AllByRecursion as All};
+ghost use Rattle.std.specs.List.{AllByRecursion};
 ghost use Rattle.circuit.specs.declared.gate.Signal.{Signal};
 ghost use Rattle.circuit.specs.Held.{circuit_of};
 ghost use Rattle.testlog.specs.Held.{test_of};
@@ -58,7 +58,7 @@ fn write_outputs<K: ClauseSink>(
 )
     requires ready { K.ClauseSink.ready sink.old }
     requires sizes { (base ≤ 90000) × (inputs ≤ 64) }
-    requires near { All Near outputs.now }
+    requires near { AllByRecursion Near outputs.now }
     ensures ready { K.ClauseSink.ready sink.new }
     ensures took { K.ClauseSink.took sink.old (integers (output_clauses base inputs outputs.now measured.now)) sink.new }
 {

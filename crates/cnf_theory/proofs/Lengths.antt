@@ -1,6 +1,6 @@
 -- How long the formula's clauses are, and how many.
 use Rattle.std.proofs.Common.{◌≡◌, ℕ, zero, suc, ◌+◌, ◌-◌, ◌*◌, ◌≤◌, Bool, true, false, not, leb, List, [], ◌∷◌, ◌++◌, map, length, Some, None, Option, ap, ⊎_elim, suc-mul, mul-le-mul, arith, length-append}
-use Rattle.std.specs.List.{flat_map, AllByRecursion as All}
+use Rattle.std.specs.List.{flat_map, AllByRecursion}
 use Rattle.std.proofs.lemmas.List.{length-map}
 use Rattle.std.proofs.lemmas.Bool.{and_parts, leb-true, eqb-true, cases_Bool, cond-true, cond-false}
 use Rattle.circuit.specs.declared.kind.Kind.{Kind}
@@ -23,10 +23,10 @@ Short c = length c ≤ 9
 
 -- at most n clauses, none longer than nine
 pub record AtMost (n : ℕ) (cs : List Clause) : Type 0 where
-  pub short : All Short cs
+  pub short : AllByRecursion Short cs
   pub few : length cs ≤ n
 
-all_both : (xs ys : List Clause) → All Short xs → All Short ys → All Short (xs ++ ys)
+all_both : (xs ys : List Clause) → AllByRecursion Short xs → AllByRecursion Short ys → AllByRecursion Short (xs ++ ys)
 all_both [] ys a b = b
 all_both (x ∷ xs) ys a b = (a.0, all_both xs ys a.1 b)
 
@@ -130,11 +130,11 @@ FewInputs t = length t.inputs ≤ 64
 test_short : (c : Circuit) (B : ℕ) (t : Test) → Sound c → AtMost (length t.inputs + length c.gates * 13 + length c.outputs) (test_clauses c B t)
 test_short c B t sound = both (length t.inputs + length c.gates * 13) (length c.outputs) _ _ (both (length t.inputs) (length c.gates * 13) _ _ (inputs_few B 1 t.inputs) (gates_few B c.inputs 1 0 c.gates sound.in_order)) (outputs_few B c.inputs c.outputs t.outputs)
 
-tests_short : (c : Circuit) (N n : ℕ) (ts : List Test) → Sound c → All Short (tests_clauses c N n ts)
+tests_short : (c : Circuit) (N n : ℕ) (ts : List Test) → Sound c → AllByRecursion Short (tests_clauses c N n ts)
 tests_short c N n [] sound = tt
 tests_short c N n (t ∷ ts) sound = all_both _ _ (test_short c (base c N n) t sound).short (tests_short c N (suc n) ts sound)
 
-tests_few : (c : Circuit) (N n : ℕ) (ts : List Test) → Sound c → All FewInputs ts → length (tests_clauses c N n ts) ≤ length ts * 3456
+tests_few : (c : Circuit) (N n : ℕ) (ts : List Test) → Sound c → AllByRecursion FewInputs ts → length (tests_clauses c N n ts) ≤ length ts * 3456
 tests_few c N n [] sound fit = omega arith
 tests_few c N n (t ∷ ts) sound fit =
     let one = (test_short c (base c N n) t sound).few in
@@ -152,7 +152,7 @@ nine_at_most c ts N sound =
     all_both (counter G N ++ limit G N N) _ (all_both (counter G N) _ (counter_few G N).short (limit_few G N N).short) (tests_short c N 0 ts sound)
 
 -- a bound for every size that is admitted
-pub few_clauses : (c : Circuit) (ts : List Test) (N : ℕ) → Sound c → All FewInputs ts → length ts ≤ 32 → N ≤ 6 → length (formula c ts N) ≤ 114177
+pub few_clauses : (c : Circuit) (ts : List Test) (N : ℕ) → Sound c → AllByRecursion FewInputs ts → length ts ≤ 32 → N ≤ 6 → length (formula c ts N) ≤ 114177
 few_clauses c ts N sound fit t n =
     let G = length c.gates in
     let g = sound.few_gates in
@@ -168,6 +168,6 @@ few_clauses c ts N sound fit t n =
 price_few : (n : ℕ) → n ≤ 9 → price n ≤ 7
 price_few n l = ⊎_elim (λ t. let e = cond-true (leb n 3) 1 (n - 2) t in omega arith) (λ f. let e = cond-false (leb n 3) 1 (n - 2) f in omega arith) (cases_Bool (leb n 3))
 
-pub prices_few : (cs : List Clause) → All Short cs → prices cs ≤ 7 * length cs
+pub prices_few : (cs : List Clause) → AllByRecursion Short cs → prices cs ≤ 7 * length cs
 prices_few [] h = omega arith
 prices_few (c ∷ cs) h = let r = prices_few cs h.1 in let p = price_few (length c) h.0 in omega arith

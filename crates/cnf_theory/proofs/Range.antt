@@ -1,7 +1,7 @@
 -- Every variable of the formula is one of 1 to its number of variables.
 use Rattle.std.proofs.Common.{◌≡◌, ℕ, zero, suc, ◌+◌, ◌*◌, ◌<◌, ◌≤◌, Bool, true, false, not, leb, List, [], ◌∷◌, ◌++◌, map, length, Some, None, Option, sym, subst, mul-le-mul_right, suc-mul, mul-suc, arith}
 use lib.Arith.{digits_lt}
-use Rattle.std.specs.List.{flat_map, AllByRecursion as All}
+use Rattle.std.specs.List.{flat_map, AllByRecursion}
 use Rattle.std.proofs.lemmas.Bool.{and_parts, leb-true}
 use Rattle.circuit.specs.declared.kind.Kind.{Kind}
 use Rattle.circuit.specs.declared.kind.Kind.TheVariants.{And, Or, Nand, Nor, Xor, Xnor, Not}
@@ -22,10 +22,10 @@ use Rattle.cnf_theory.proofs.TestSound.{gate_takes}
 -- ── any property of variables ──
 module _ (P : ℕ → Type 0) where
   abbrev pub OfClause : Clause → Type 0
-  OfClause c = All (λ (x : Literal). P (variable_of x)) c
+  OfClause c = AllByRecursion (λ (x : Literal). P (variable_of x)) c
 
   abbrev pub Each : List Clause → Type 0
-  Each cs = All OfClause cs
+  Each cs = AllByRecursion OfClause cs
 
   each_both : (xs ys : List Clause) → Each xs → Each ys → Each (xs ++ ys)
   each_both [] ys a b = b
@@ -39,27 +39,27 @@ module _ (P : ℕ → Type 0) where
   of_signed true v p = p
   of_signed false v p = p
 
-  all_signed : (b : Bool) (xs : List ℕ) → All P xs → OfClause (map (signed b) xs)
+  all_signed : (b : Bool) (xs : List ℕ) → AllByRecursion P xs → OfClause (map (signed b) xs)
   all_signed b [] a = tt
   all_signed b (x ∷ xs) a = (of_signed b x a.0, all_signed b xs a.1)
 
-  pairs : (b d : Bool) (l : ℕ) (xs : List ℕ) → P l → All P xs → Each (map (λ a. signed b l ∷ signed d a ∷ []) xs)
+  pairs : (b d : Bool) (l : ℕ) (xs : List ℕ) → P l → AllByRecursion P xs → Each (map (λ a. signed b l ∷ signed d a ∷ []) xs)
   pairs b d l [] p a = tt
   pairs b d l (x ∷ xs) p a = ((of_signed b l p, (of_signed d x a.0, tt)), pairs b d l xs p a.1)
 
-  conjunctions : (x y : Bool) (l : ℕ) (xs : List ℕ) → P l → All P xs → Each (conjunction x y l xs)
+  conjunctions : (x y : Bool) (l : ℕ) (xs : List ℕ) → P l → AllByRecursion P xs → Each (conjunction x y l xs)
   conjunctions x y l xs p a = each_both (map (λ a. signed (not x) l ∷ signed y a ∷ []) xs) _ (pairs (not x) y l xs p a) ((of_signed x l p, all_signed (not y) xs a), tt)
 
-  excluded : (l : ℕ) (d : Bool) (xs : List ℕ) (r : List Bool) → P l → All P xs → OfClause (excluding xs r ++ signed d l ∷ [])
+  excluded : (l : ℕ) (d : Bool) (xs : List ℕ) (r : List Bool) → P l → AllByRecursion P xs → OfClause (excluding xs r ++ signed d l ∷ [])
   excluded l d [] r p a = (of_signed d l p, tt)
   excluded l d (x ∷ xs) [] p a = (of_signed d l p, tt)
   excluded l d (x ∷ xs) (b ∷ bs) p a = (of_signed (not b) x a.0, excluded l d xs bs p a.1)
 
-  tables : (f : List Bool → Bool) (l : ℕ) (xs : List ℕ) (rs : List (List Bool)) → P l → All P xs → Each (map (λ r. excluding xs r ++ signed (f r) l ∷ []) rs)
+  tables : (f : List Bool → Bool) (l : ℕ) (xs : List ℕ) (rs : List (List Bool)) → P l → AllByRecursion P xs → Each (map (λ r. excluding xs r ++ signed (f r) l ∷ []) rs)
   tables f l xs [] p a = tt
   tables f l xs (r ∷ rs) p a = (excluded l (f r) xs r p a, tables f l xs rs p a)
 
-  functions : (k : Kind) (l : ℕ) (xs : List ℕ) → P l → All P xs → Each (function k l xs)
+  functions : (k : Kind) (l : ℕ) (xs : List ℕ) → P l → AllByRecursion P xs → Each (function k l xs)
   functions And l xs p a = conjunctions true true l xs p a
   functions Nand l xs p a = conjunctions false true l xs p a
   functions Or l xs p a = conjunctions false false l xs p a
@@ -75,7 +75,7 @@ module _ (P : ℕ → Type 0) where
     signal-in m le (signal.Gate zero) t = absurd (let e = leb-true 1 0 (and_parts (leb 1 0) (leb 0 m) t).0 in omega arith)
     signal-in m le (signal.Gate (suc g)) t = let e = leb-true (suc g) m (and_parts (leb 1 (suc g)) (leb (suc g) m) t).1 in gates g 3 (omega arith) (omega arith) (omega arith)
 
-    signals-in : (m : ℕ) → m ≤ G → (xs : List Signal) → all (there I m) xs ≡ true → All P (map (signal_variable B I) xs)
+    signals-in : (m : ℕ) → m ≤ G → (xs : List Signal) → all (there I m) xs ≡ true → AllByRecursion P (map (signal_variable B I) xs)
     signals-in m le [] t = tt
     signals-in m le (x ∷ xs) t = let p = and_parts (there I m x) (all (there I m) xs) t in (signal-in m le x p.0, signals-in m le xs p.1)
 
@@ -136,7 +136,7 @@ limit_in zero N V room = tt
 limit_in (suc h) N V room = ((count_in (suc h) N V room (suc h) (suc N) (omega arith) (omega arith) (omega arith) (omega arith), tt), tt)
 
 -- ── the tests ──
-tests_in : (c : Circuit) (N V : ℕ) → Sound c → (n : ℕ) (ts : List Test) → All (FitsTest c) ts → base c N (n + length ts) ≤ V → Each (UpTo V) (tests_clauses c N n ts)
+tests_in : (c : Circuit) (N V : ℕ) → Sound c → (n : ℕ) (ts : List Test) → AllByRecursion (FitsTest c) ts → base c N (n + length ts) ≤ V → Each (UpTo V) (tests_clauses c N n ts)
 tests_in c N V sound n [] fit le = tt
 tests_in c N V sound n (t ∷ ts) fit le =
     let I = c.inputs in

@@ -1,6 +1,6 @@
 -- The formula says that at most N gates are marked and explain every test.
 use Rattle.std.proofs.Common.{◌≡◌, ℕ, zero, suc, ◌+◌, ◌<◌, ◌≤◌, Bool, false, leb, List, [], ◌∷◌, ◌++◌, map, length, get_or, sym, refl, ap, ◌∙◌, subst, add-zero, add-suc, suc-add, arith}
-use Rattle.std.specs.List.{AllByRecursion as All}
+use Rattle.std.specs.List.{AllByRecursion}
 use Rattle.std.proofs.lemmas.Bool.{lt-leb}
 use Rattle.circuit.specs.Circuits.{Circuit, Sound}
 use Rattle.circuit.specs.Tests.{Test, FitsTest}
@@ -19,7 +19,7 @@ use Rattle.cnf_theory.proofs.TestComplete.{TestRow, test_complete}
 use Rattle.cnf_theory.proofs.Row.{row, row_mark, row_count, row_input, row_gate}
 
 -- ── the marks of a row of the formula explain ──
-tests_sound : (c : Circuit) (N n : ℕ) (ts : List Test) (ρ : Row) → Sound c → All (FitsTest c) ts → Holds ρ (tests_clauses c N n ts) → ExplainsCase c ρ ts
+tests_sound : (c : Circuit) (N n : ℕ) (ts : List Test) (ρ : Row) → Sound c → AllByRecursion (FitsTest c) ts → Holds ρ (tests_clauses c N n ts) → ExplainsCase c ρ ts
 tests_sound c N n [] ρ sound fit h = tt
 tests_sound c N n (t ∷ ts) ρ sound fit h = (
   test_sound c ρ (base c N n) t sound.in_order sound.shown fit.0 (holds_left ρ (test_clauses c (base c N n) t) _ h),
@@ -36,14 +36,14 @@ forced_in c s (t ∷ ts) x (suc n) = forced_in c s ts x.1 n
 abbrev no_test : Test
 no_test = record { inputs = []; outputs = [] }
 
-tests_complete : (c : Circuit) (N : ℕ) (ρ s : ℕ → Bool) → Sound c → (n : ℕ) (ts : List Test) → All (FitsTest c) ts → (x : ExplainsCase c s ts) → ((j : ℕ) → j < length ts → TestRow c s (forced_in c s ts x j) (get_or ts j no_test) ρ (base c N (n + j))) → Holds ρ (tests_clauses c N n ts)
+tests_complete : (c : Circuit) (N : ℕ) (ρ s : ℕ → Bool) → Sound c → (n : ℕ) (ts : List Test) → AllByRecursion (FitsTest c) ts → (x : ExplainsCase c s ts) → ((j : ℕ) → j < length ts → TestRow c s (forced_in c s ts x j) (get_or ts j no_test) ρ (base c N (n + j))) → Holds ρ (tests_clauses c N n ts)
 tests_complete c N ρ s sound n [] fit x r = tt
 tests_complete c N ρ s sound n (t ∷ ts) fit x r =
     holds_both ρ (test_clauses c (base c N n) t) _
     (test_complete c s x.0.0 t ρ (base c N n) (subst (λ (k : ℕ). TestRow c s x.0.0 t ρ (base c N k)) (add-zero n) (r 0 (omega arith))) sound.in_order sound.shown fit.0 x.0.1)
     (tests_complete c N ρ s sound (suc n) ts fit.1 x.1 (λ j lt. subst (λ (k : ℕ). TestRow c s (forced_in c s ts x.1 j) (get_or ts j no_test) ρ (base c N k)) (add-suc n j ∙ sym (suc-add n j)) (r (suc j) (omega arith))))
 
-module _ (c : Circuit) (ts : List Test) (N : ℕ) (s : ℕ → Bool) (sound : Sound c) (fit : All (FitsTest c) ts) (few : count s (length c.gates) ≤ N) (x : ExplainsCase c s ts) where
+module _ (c : Circuit) (ts : List Test) (N : ℕ) (s : ℕ → Bool) (sound : Sound c) (fit : AllByRecursion (FitsTest c) ts) (few : count s (length c.gates) ≤ N) (x : ExplainsCase c s ts) where
   abbrev G : ℕ
   G = length c.gates
 

@@ -5,7 +5,7 @@
 --   WithinVariables   each literal's variable is in 1 to the number of variables
 --   NineAtMost        no clause has more than nine literals
 use Rattle.std.specs.Prelude.{◌≡◌, ℕ, suc, ◌≤◌, false, ◌↔◌, List, length}
-use Rattle.std.specs.List.{AllByRecursion as All}
+use Rattle.std.specs.List.{AllByRecursion}
 use Rattle.circuit.specs.Circuits.{Circuit, Sound}
 use Rattle.circuit.specs.Tests.{Test, FitsTest}
 use Rattle.diagnosis.specs.Sets.{Marks}
@@ -20,19 +20,19 @@ MarksJust n s ρ = (g : ℕ) → 1 ≤ g → g ≤ n → ρ g ≡ s g
 
 abbrev pub SaysExplains : Type 0
 SaysExplains =
-    (c : Circuit) (ts : List Test) (N : ℕ) (s : Marks) → Sound c → All (FitsTest c) ts
+    (c : Circuit) (ts : List Test) (N : ℕ) (s : Marks) → Sound c → AllByRecursion (FitsTest c) ts
     → ((ρ : Row) × MarksJust (length c.gates) s ρ × Holds ρ (formula c ts N)) ↔ ((count s (length c.gates) ≤ N) × ExplainsCase c s ts)
 
 abbrev pub CountsTo : Type 0
 CountsTo =
-    (c : Circuit) (ts : List Test) (N k : ℕ) (s : Marks) → Sound c → All (FitsTest c) ts → k ≤ N
+    (c : Circuit) (ts : List Test) (N k : ℕ) (s : Marks) → Sound c → AllByRecursion (FitsTest c) ts → k ≤ N
     → ((ρ : Row) × MarksJust (length c.gates) s ρ × Holds ρ (formula c ts N) × (ρ (count_variable (length c.gates) N (length c.gates) (suc k)) ≡ false))
     ↔ ((count s (length c.gates) ≤ k) × ExplainsCase c s ts)
 
 abbrev pub WithinVariables : Type 0
 WithinVariables =
-    (c : Circuit) (ts : List Test) (N : ℕ) → Sound c → All (FitsTest c) ts
-    → All (All (λ (x : Literal). (1 ≤ variable_of x) × (variable_of x ≤ variables c ts N))) (formula c ts N)
+    (c : Circuit) (ts : List Test) (N : ℕ) → Sound c → AllByRecursion (FitsTest c) ts
+    → AllByRecursion (AllByRecursion (λ (x : Literal). (1 ≤ variable_of x) × (variable_of x ≤ variables c ts N))) (formula c ts N)
 
 abbrev pub NineAtMost : Type 0
-NineAtMost = (c : Circuit) (ts : List Test) (N : ℕ) → Sound c → All (λ (x : Clause). length x ≤ 9) (formula c ts N)
+NineAtMost = (c : Circuit) (ts : List Test) (N : ℕ) → Sound c → AllByRecursion (λ (x : Clause). length x ≤ 9) (formula c ts N)

@@ -14,7 +14,7 @@
 --   ExplainsSet    a set of gates does
 use Rattle.std.specs.Prelude.{◌≡◌, ℕ, zero, suc, Bool, true, false, cond, ◌&&◌, List, [], ◌∷◌, ◌++◌, map, length, Some, None, Option, ◌==◌, slice_index_or}
 use Rattle.std.specs.Bool.{beq}
-use Rattle.std.specs.List.{AllByRecursion as All}
+use Rattle.std.specs.List.{AllByRecursion}
 use Rattle.circuit.specs.declared.gate.Signal.{Signal}
 use Rattle.circuit.specs.declared.gate.Signal.TheVariants as signal
 use Rattle.circuit.specs.Kinds.{gives}
@@ -63,7 +63,7 @@ abbrev pub Explains : Circuit → Marks → Test → Type 0
 Explains c s t = (w : Values) × (brings_out c s w t ≡ true)
 
 abbrev pub ExplainsCase : Circuit → Marks → List Test → Type 0
-ExplainsCase c s ts = All (Explains c s) ts
+ExplainsCase c s ts = AllByRecursion (Explains c s) ts
 
 abbrev pub ExplainsSet : Circuit → List Test → List ℕ → Type 0
 ExplainsSet c ts S = ExplainsCase c (member S) ts

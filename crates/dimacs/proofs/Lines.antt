@@ -1,6 +1,6 @@
 -- From the clause that was picked to the line.
 use Rattle.std.proofs.Common.{◌≡◌, ℕ, zero, suc, ◌+◌, ◌^◌, ◌<◌, ◌≤◌, false, List, [], ◌∷◌, ◌++◌, map, length, get_or, take, drop, set, Some, None, decimal, sym, refl, ap, ◌∙◌, ⊎_elim, arith, length-append, drop-cons}
-use Rattle.std.specs.List.{flat_map, slice_get, AllByRecursion as All}
+use Rattle.std.specs.List.{flat_map, slice_get, AllByRecursion}
 use Rattle.std.proofs.lemmas.List.{length-map, set_at, take_more, length-take-le}
 use Rattle.std.proofs.lemmas.Bool.{cases_lt, both_ways}
 use Rattle.std.specs.Fmt.{signed_decimal}
@@ -24,12 +24,12 @@ handed_at [] j l = absurd (omega arith)
 handed_at (c ∷ cs) zero l = refl
 handed_at (c ∷ cs) (suc j) l = handed_at cs j (omega arith)
 
-short_at : (cs : List Clause) (j : ℕ) → j < length cs → All Short cs → length (get_or cs j []) ≤ 9
+short_at : (cs : List Clause) (j : ℕ) → j < length cs → AllByRecursion Short cs → length (get_or cs j []) ≤ 9
 short_at [] j l h = absurd (omega arith)
 short_at (c ∷ cs) zero l h = h.0
 short_at (c ∷ cs) (suc j) l h = short_at cs j (omega arith) h.1
 
-pub is_clause : (cs : List Clause) (j : ℕ) (s t : Pick) → All Short cs → s.found ≡ false → s.skip ≡ j → Picked s (integers cs) t → IsClause cs j t
+pub is_clause : (cs : List Clause) (j : ℕ) (s t : Pick) → AllByRecursion Short cs → s.found ≡ false → s.skip ≡ j → Picked s (integers cs) t → IsClause cs j t
 is_clause cs j s t short off at p =
     let n : length (integers cs) ≡ length cs = length-map cs (map integer) in
     record {

@@ -1,7 +1,7 @@
 -- The clauses that bar sets, one gate or one set more.
 use Rattle.std.proofs.Common.{◌≡◌, ℕ, zero, suc, ◌+◌, ◌<◌, ◌≤◌, List, [], ◌∷◌, ◌++◌, map, length, get_or, take, set, ℤ, sym, ap, ◌∙◌, subst, le_of_suc-le-suc, not-suc-le-zero, arith}
 use mathlib.Core.List.{map-append}
-use Rattle.std.specs.List.{AllByRecursion as All}
+use Rattle.std.specs.List.{AllByRecursion}
 use Rattle.std.proofs.lemmas.List.{take_more_set}
 use Rattle.diagnosis.specs.Sets.{Ascends, IsSet}
 use Rattle.cnf_theory.specs.Literals.{negative, integer}
@@ -16,13 +16,13 @@ gate_at [] i d l h = absurd (not-suc-le-zero l)
 gate_at (g ∷ gs) zero d l h = h.0
 gate_at (g ∷ gs) (suc i) d l h = gate_at gs i d (le_of_suc-le-suc l) h.1
 
-set_at : (ss : List GateSet) (i : ℕ) (d : GateSet) → i < length ss → All GateNumbers (sets_of ss) → GateNumbers (set_of (get_or ss i d))
+set_at : (ss : List GateSet) (i : ℕ) (d : GateSet) → i < length ss → AllByRecursion GateNumbers (sets_of ss) → GateNumbers (set_of (get_or ss i d))
 set_at [] i d l h = absurd (not-suc-le-zero l)
 set_at (s ∷ ss) zero d l h = h.0
 set_at (s ∷ ss) (suc i) d l h = set_at ss i d (le_of_suc-le-suc l) h.1
 
 -- the set that stands at place i
-pub set_here : (ss : List GateSet) (i : ℕ) (s : GateSet) → i < length ss → s ≡ get_or ss i s → All GateNumbers (sets_of ss) → GateNumbers (set_of s)
+pub set_here : (ss : List GateSet) (i : ℕ) (s : GateSet) → i < length ss → s ≡ get_or ss i s → AllByRecursion GateNumbers (sets_of ss) → GateNumbers (set_of s)
 set_here ss i s l e h = subst (λ (x : GateSet). GateNumbers (set_of x)) (sym e) (set_at ss i s l h)
 
 pub bar_more : (gs : List ℕ) (ys : List ℤ) (i d : ℕ) (v : ℤ) → i < length gs → i < length ys → take i ys ≡ map integer (barring (take i gs)) → v ≡ integer (negative (get_or gs i d)) → take (i + 1) (set ys i v) ≡ map integer (barring (take (i + 1) gs))
@@ -40,6 +40,6 @@ set_numbers : (a n : ℕ) (S : List ℕ) → n ≤ 256 → Ascends a n S → Gat
 set_numbers a n [] l h = tt
 set_numbers a n (x ∷ S) l h = (omega (arith, h.1), set_numbers (suc x) n S l h.2)
 
-pub sets_numbers : (n : ℕ) (given : List (List ℕ)) → n ≤ 256 → All (IsSet n) given → All GateNumbers given
+pub sets_numbers : (n : ℕ) (given : List (List ℕ)) → n ≤ 256 → AllByRecursion (IsSet n) given → AllByRecursion GateNumbers given
 sets_numbers n [] l h = tt
 sets_numbers n (S ∷ given) l h = (set_numbers 1 n S l h.0, sets_numbers n given l h.1)

@@ -1,6 +1,6 @@
 -- What it says that tests and sets fit a circuit.
 use Rattle.std.proofs.Common.{◌≡◌, ℕ, ◌<◌, true, false, ◌&&◌, eqb, ltb, List, [], ◌∷◌, length, sym, ap, ◌∙◌}
-use Rattle.std.specs.List.{AllByRecursion as All}
+use Rattle.std.specs.List.{AllByRecursion}
 use Rattle.std.proofs.lemmas.Bool.{and_parts, and_left, and_right, lt-ltb, ltb-true, eqb-true}
 use Rattle.circuit.specs.Lists.{all}
 use Rattle.circuit.specs.Circuits.{Circuit, Sound}
@@ -19,14 +19,14 @@ fitting_sets c ts given l e =
     let sets = all (above 0 (length c.gates)) given in
     ap (λ b. b && sets) (sym e) ∙ ap (λ b. b && (all (fits_test c) ts && sets)) (sym (lt-ltb 0 (length c.gates) l))
 
-tests_fit : (c : Circuit) (ts : List Test) → all (fits_test c) ts ≡ true → All (FitsTest c) ts
+tests_fit : (c : Circuit) (ts : List Test) → all (fits_test c) ts ≡ true → AllByRecursion (FitsTest c) ts
 tests_fit c [] e = tt
 tests_fit c (t ∷ ts) e =
     let (here, later) = and_parts (fits_test c t) _ e in
     let (inputs, outputs) = and_parts (eqb (length t.inputs) c.inputs) _ here in
     (record { inputs = eqb-true _ _ inputs; outputs = eqb-true _ _ outputs }, tests_fit c ts later)
 
-sets_fit : (n : ℕ) (given : List (List ℕ)) → all (above 0 n) given ≡ true → All (IsSet n) given
+sets_fit : (n : ℕ) (given : List (List ℕ)) → all (above 0 n) given ≡ true → AllByRecursion (IsSet n) given
 sets_fit n [] e = tt
 sets_fit n (S ∷ given) e = let (here, later) = and_parts (above 0 n S) _ e in ((ascending_numbers_sets n S).0 here, sets_fit n given later)
 

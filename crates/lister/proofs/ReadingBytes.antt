@@ -2,11 +2,11 @@
 use Rattle.std.proofs.Common.{◌≡◌, ℕ, zero, suc, ◌+◌, ◌-◌, ◌*◌, ◌^◌, ◌<◌, ◌≤◌, Bool, true, false, cond, List, [], ◌∷◌, length, get_or, drop, sym, refl, ap, ◌∙◌, le_of_suc-le-suc, not-suc-le-zero, pow-suc, arith, length-drop, drop-cons, pow_mono}
 use lib.Seq.{drop-length}
 use mir.Val.{bool_byte}
-use Rattle.std.specs.List.{AllByRecursion as All}
+use Rattle.std.specs.List.{AllByRecursion}
 use Rattle.diagnosis.specs.Explains.{Values}
 use Rattle.diagnosis.specs.Readings.{reading}
 
-pub all_here : (P : ℕ → Type 0) (xs : List ℕ) (i d : ℕ) → i < length xs → All P xs → P (get_or xs i d)
+pub all_here : (P : ℕ → Type 0) (xs : List ℕ) (i d : ℕ) → i < length xs → AllByRecursion P xs → P (get_or xs i d)
 all_here P [] i d l h = absurd (not-suc-le-zero l)
 all_here P (x ∷ xs) zero d l h = h.0
 all_here P (x ∷ xs) (suc i) d l h = all_here P xs i d (le_of_suc-le-suc l) h.1

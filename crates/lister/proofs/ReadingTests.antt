@@ -1,6 +1,6 @@
 -- The variables that are read are in use, and one test's byte more.
 use Rattle.std.proofs.Common.{◌≡◌, ℕ, zero, suc, ◌+◌, ◌*◌, ◌<◌, ◌≤◌, List, [], ◌∷◌, length, get_or, set, sym, ap, ◌∙◌, ⊎_elim, mul-le-mul_right, suc-mul, arith, get_or-set_other, get_or-set_same}
-use Rattle.std.specs.List.{AllByRecursion as All}
+use Rattle.std.specs.List.{AllByRecursion}
 use Rattle.std.proofs.lemmas.Bool.{cases_eq}
 use Rattle.circuit.specs.Circuits.{Circuit}
 use Rattle.diagnosis.specs.Sets.{Ascends, IsSet}
@@ -21,11 +21,11 @@ module _ (c : Circuit) (N T V : ℕ) (few : length c.gates ≤ 256) (all_in_use 
   forced_in_use t l zero a b = absurd (omega arith)
   forced_in_use t l (suc h) a b = let u = test_in_use t l in omega arith
 
-  from_readable : (t a : ℕ) (S : List ℕ) → t < T → 1 ≤ a → Ascends a (length c.gates) S → All (Readable V (base c N t) c.inputs) S
+  from_readable : (t a : ℕ) (S : List ℕ) → t < T → 1 ≤ a → Ascends a (length c.gates) S → AllByRecursion (Readable V (base c N t) c.inputs) S
   from_readable t a [] l o s = tt
   from_readable t a (x ∷ S) l o s = (record { numbered = omega (arith, s.0); near = omega (arith, s.1); in_use = forced_in_use t l x (omega (arith, s.0)) s.1 }, from_readable t (suc x) S l (omega arith) s.2)
 
-  pub set_readable : (t : ℕ) (S : List ℕ) → t < T → IsSet (length c.gates) S → All (Readable V (base c N t) c.inputs) S
+  pub set_readable : (t : ℕ) (S : List ℕ) → t < T → IsSet (length c.gates) S → AllByRecursion (Readable V (base c N t) c.inputs) S
   set_readable t S l s = from_readable t 1 S l (omega arith) s
 
 -- the byte of one test more is written

@@ -3,7 +3,7 @@
 --   fitting        whether the circuit has a gate, the tests are tests of it, and the sets given are sets of its gates
 --   list_refusal   why the next set is not looked for, if so: something does not fit the circuit, or the solver is too small
 use Rattle.std.specs.Prelude.{ℕ, ◌≤◌, Bool, cond, ◌&&◌, List, length, Some, None, Option, ◌==◌, nat_lt}
-use Rattle.std.specs.List.{AllByRecursion as All}
+use Rattle.std.specs.List.{AllByRecursion}
 use Rattle.circuit.specs.Lists.{all}
 use Rattle.circuit.specs.Circuits.{Circuit}
 use Rattle.circuit.specs.Tests.{Test}
@@ -15,7 +15,7 @@ use Rattle.lister.specs.declared.fault.ListFault.TheVariants.{Unfit, SmallSolver
 
 -- numbers that gates may have
 abbrev pub GateNumbers : List ℕ → Type 0
-GateNumbers S = All (λ g. g ≤ 256) S
+GateNumbers S = AllByRecursion (λ g. g ≤ 256) S
 
 abbrev pub fits_test : Circuit → Test → Bool
 fits_test c t = length t.inputs == c.inputs && length t.outputs == length c.outputs

@@ -1,6 +1,6 @@
 // The clauses that bar the sets given before.
 ghost use Rattle.std.specs.Prelude.{◌≡◌, ◌≤◌, List, [], ◌∷◌, map, length, take};
-ghost use Rattle.std.specs.List.{AllByRecursion as All};
+ghost use Rattle.std.specs.List.{AllByRecursion};
 ghost use Rattle.cnf_theory.specs.Literals.{positive, negative, integer, integers};
 ghost use Rattle.candidates.specs.Added.{barring};
 ghost use Rattle.gate_set.specs.Held.{set_of, sets_of};
@@ -52,7 +52,7 @@ fn write_bar<K: ClauseSink>(sink: &mut K, set: &GateSet)
 // A clause for each set, in their order.
 pub(crate) fn write_bars<K: ClauseSink>(sink: &mut K, sets: &[GateSet])
     requires ready { K.ClauseSink.ready sink.old }
-    requires numbers { All GateNumbers (sets_of sets.now) }
+    requires numbers { AllByRecursion GateNumbers (sets_of sets.now) }
     ensures ready { K.ClauseSink.ready sink.new }
     ensures took { K.ClauseSink.took sink.old (integers (map barring (sets_of sets.now))) sink.new }
 {

@@ -1,6 +1,6 @@
 // A solver filled with the formula and the clauses that bar the sets given before.
 ghost use Rattle.std.specs.Prelude.{◌≡◌, ◌≤◌};
-ghost use Rattle.std.specs.List.{AllByRecursion as All};
+ghost use Rattle.std.specs.List.{AllByRecursion};
 ghost use Rattle.circuit.specs.Held.{circuit_of};
 ghost use Rattle.testlog.specs.Held.{tests_of};
 ghost use Rattle.solver.specs.Meaning.{Begun};
@@ -60,7 +60,7 @@ pub(crate) fn is_enough<S: Solver>(
     bound: Bound,
     given: &[GateSet],
 ) -> bool
-    requires numbers { All GateNumbers (sets_of given.now) }
+    requires numbers { AllByRecursion GateNumbers (sets_of given.now) }
     ensures { result ≡ enough (circuit_of circuit.now) (tests_of tests.now) bound.value (sets_of given.now) (S.Solver.meaning solver.now).sizes }
 {
     if variable_count(circuit, tests, bound) > solver.capacity() {

@@ -1,6 +1,6 @@
 // The values that the row shown forces on the gates of a set, a byte for each test.
 ghost use Rattle.std.specs.Prelude.{◌≡◌, ℕ, ◌<◌, ◌≤◌, length, slice_index};
-ghost use Rattle.std.specs.List.{AllByRecursion as All};
+ghost use Rattle.std.specs.List.{AllByRecursion};
 ghost use Rattle.circuit.specs.Held.{circuit_of};
 ghost use Rattle.diagnosis.specs.Sets.{IsSet};
 ghost use Rattle.diagnosis.specs.Readings.{reading};
@@ -39,7 +39,7 @@ fn forced_value<S: Solver>(solver: &S, base: usize, inputs: usize, gate: usize) 
 fn read_test<S: Solver>(solver: &S, base: usize, inputs: usize, gates: &[usize]) -> u8
     requires sound { S.Solver.sound solver.now }
     requires sizes { (base ≤ 100000) × ((inputs ≤ 64) × (length gates.now ≤ 6)) }
-    requires reads { All (Readable (S.Solver.meaning solver.now).vars base inputs) gates.now }
+    requires reads { AllByRecursion (Readable (S.Solver.meaning solver.now).vars base inputs) gates.now }
     ensures { result ≡ reading gates.now (λ g. told (S.Solver.meaning solver.now).shown (forced_variable base inputs g)) }
 {
     let count = gates.len();

@@ -1,6 +1,6 @@
 -- The pieces of a log are cut from it, in the one way there is; so records end to end are cut into the same records.
 use Rattle.std.proofs.Common.{◌≡◌, ℕ, zero, suc, ◌+◌, ◌<◌, ◌≤◌, ◌⊎◌, List, [], ◌∷◌, ◌++◌, map, length, get_or, sym, refl, ap, ◌∙◌, subst, inl, inr, arith}
-use Rattle.std.specs.List.{flat_map, AllByRecursion as All}
+use Rattle.std.specs.List.{flat_map, AllByRecursion}
 use Rattle.std.proofs.lemmas.List.{length-append, append-nil}
 use Rattle.circuit.specs.Circuits.{Circuit}
 use Rattle.circuit.specs.Tests.{Test, FitsTest}
@@ -85,7 +85,7 @@ own_length c t fits =
     ∙ ap (λ O. record_length (length t.inputs) O (written t)) (marks_fit c t fits)
     ∙ ap (λ I. record_length I (length c.outputs) (written t)) fits.inputs
 
-records_cut : (c : Circuit) (ts : List Test) → HasSignals c → All (FitsTest c) ts → Cut c (flat_map written ts) (map written ts)
+records_cut : (c : Circuit) (ts : List Test) → HasSignals c → AllByRecursion (FitsTest c) ts → Cut c (flat_map written ts) (map written ts)
 records_cut c [] sig fit = cut_none c
 records_cut c (t ∷ ts) sig fit =
     let own = own_length c t fit.0 in

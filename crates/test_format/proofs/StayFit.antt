@@ -1,6 +1,6 @@
 -- Tests of a circuit stay tests of it, whatever is recorded, amended or struck.
 use Rattle.std.proofs.Common.{◌≡◌, ℕ, zero, suc, ◌-◌, Bool, eqb, ltb, List, [], ◌∷◌, ◌++◌, length, take, is_some, Some, None, Ok, Err, Option, Result, refl, ◌∙◌, subst, arith, length-set}
-use Rattle.std.specs.List.{AllByRecursion as All}
+use Rattle.std.specs.List.{AllByRecursion}
 use Rattle.std.proofs.ByRecursion.{All-push, All-take}
 use Rattle.std.proofs.lemmas.Bool.{eqb-true}
 use Rattle.refusal.specs.declared.Refusal.{Refusal}
@@ -21,26 +21,26 @@ decoded_fits c bytes t e =
     let same : given I O bytes ≡ t = cc q.1 in
     subst (λ (u : Test). FitsTest c u) same (record { inputs = (given_fits I O bytes long).0; outputs = (given_fits I O bytes long).1 })
 
-joined_fits : (c : Circuit) (ts us : List Test) (r : Result Test Refusal) → ((t : Test) → r ≡ Ok t → FitsTest c t) → All (FitsTest c) ts → joined_by ts r ≡ Ok us → All (FitsTest c) us
-joined_fits c ts us (Ok t) f all_fit e = let same : ts ++ t ∷ [] ≡ us = cc in subst (λ (l : List Test). All (FitsTest c) l) same (All-push (FitsTest c) ts t all_fit (f t refl))
+joined_fits : (c : Circuit) (ts us : List Test) (r : Result Test Refusal) → ((t : Test) → r ≡ Ok t → FitsTest c t) → AllByRecursion (FitsTest c) ts → joined_by ts r ≡ Ok us → AllByRecursion (FitsTest c) us
+joined_fits c ts us (Ok t) f all_fit e = let same : ts ++ t ∷ [] ≡ us = cc in subst (λ (l : List Test). AllByRecursion (FitsTest c) l) same (All-push (FitsTest c) ts t all_fit (f t refl))
 joined_fits c ts us (Err r) f all_fit e = let z : ◌≡◌ {A = ℕ} 0 1 = cc in absurd (omega arith)
 
 reading_fits : (c : Circuit) (t : Test) (o : ℕ) (v : Option Bool) → FitsTest c t → FitsTest c (with_reading t o v)
 reading_fits c t zero v f = f
 reading_fits c t (suc o) v f = record { inputs = f.inputs; outputs = length-set t.outputs o v ∙ f.outputs }
 
-replaced_fits : (c : Circuit) (ts : List Test) (k o : ℕ) (v : Option Bool) → All (FitsTest c) ts → All (FitsTest c) (replaced ts k o v)
+replaced_fits : (c : Circuit) (ts : List Test) (k o : ℕ) (v : Option Bool) → AllByRecursion (FitsTest c) ts → AllByRecursion (FitsTest c) (replaced ts k o v)
 unfolding replaced
 replaced_fits c [] k o v f = f
 replaced_fits c (t ∷ ts) zero o v f = (reading_fits c t o v f.0, f.1)
 replaced_fits c (t ∷ ts) (suc k) o v f = (f.0, replaced_fits c ts k o v f.1)
 
-amended_fits : (c : Circuit) (ts us : List Test) (k o : ℕ) (r : Option (Option Bool)) → All (FitsTest c) ts → amended_by ts k o r ≡ Ok us → All (FitsTest c) us
+amended_fits : (c : Circuit) (ts us : List Test) (k o : ℕ) (r : Option (Option Bool)) → AllByRecursion (FitsTest c) ts → amended_by ts k o r ≡ Ok us → AllByRecursion (FitsTest c) us
 amended_fits c ts us k o None f e = let z : ◌≡◌ {A = ℕ} 0 1 = cc in absurd (omega arith)
 amended_fits c ts us k o (Some v) f e =
     let p = ask_taken 14 (is_some (output_at ts k o)) (Ok (replaced ts k o v)) us e in
     let same : replaced ts k o v ≡ us = cc p.1 in
-    subst (λ (l : List Test). All (FitsTest c) l) same (replaced_fits c ts k o v f)
+    subst (λ (l : List Test). AllByRecursion (FitsTest c) l) same (replaced_fits c ts k o v f)
 
 pub tests_stay_fit : TestsStayFit
 tests_stay_fit c ts us f = record {
@@ -49,5 +49,5 @@ tests_stay_fit c ts us f = record {
   after_strike = λ e.
       let p = ask_taken 15 (ltb 0 (length ts)) (Ok (take (length ts - 1) ts)) us e in
       let same : take (length ts - 1) ts ≡ us = cc p.1 in
-      subst (λ (l : List Test). All (FitsTest c) l) same (All-take (FitsTest c) (length ts - 1) ts f);
+      subst (λ (l : List Test). AllByRecursion (FitsTest c) l) same (All-take (FitsTest c) (length ts - 1) ts f);
 }

@@ -9,7 +9,7 @@
 --   StrikesLast    striking undoes the last record, whatever it was
 --   TestsStayFit   where the tests held are tests of the circuit, they are so after a record, an amendment or a strike
 use Rattle.std.specs.Prelude.{◌≡◌, ℕ, ◌+◌, ◌<◌, ◌≤◌, true, List, [], ◌∷◌, ◌++◌, map, length, Ok, slice_index_or}
-use Rattle.std.specs.List.{flat_map, AllByRecursion as All}
+use Rattle.std.specs.List.{flat_map, AllByRecursion}
 use Rattle.circuit.specs.Lists.{all}
 use Rattle.circuit.specs.Circuits.{Circuit}
 use Rattle.circuit.specs.Tests.{Test, FitsTest}
@@ -38,7 +38,7 @@ abbrev pub LogIsCut : Type 0
 LogIsCut = (c : Circuit) (log : List ℕ) → Cut c log (pieces c log) × ((ps : List (List ℕ)) → HasSignals c → Cut c log ps → ps ≡ pieces c log)
 
 abbrev pub LogReadsBack : Type 0
-LogReadsBack = (c : Circuit) (ts : List Test) → HasSignals c → All (FitsTest c) ts → pieces c (flat_map written ts) ≡ map written ts
+LogReadsBack = (c : Circuit) (ts : List Test) → HasSignals c → AllByRecursion (FitsTest c) ts → pieces c (flat_map written ts) ≡ map written ts
 
 abbrev pub AmendsOne : Type 0
 AmendsOne = (ts us : List Test) (k o n : ℕ) → amended ts k o n ≡ Ok us → Amended ts us k o n
@@ -47,9 +47,9 @@ abbrev pub StrikesLast : Type 0
 StrikesLast = ((ts : List Test) (t : Test) → struck (ts ++ t ∷ []) ≡ Ok ts) × (struck [] ≡ refused 15)
 
 pub record StayFit (c : Circuit) (ts us : List Test) : Type 0 where
-  pub after_record : (bytes : List ℕ) → recorded c ts bytes ≡ Ok us → All (FitsTest c) us
-  pub after_amend : (k o n : ℕ) → amended ts k o n ≡ Ok us → All (FitsTest c) us
-  pub after_strike : struck ts ≡ Ok us → All (FitsTest c) us
+  pub after_record : (bytes : List ℕ) → recorded c ts bytes ≡ Ok us → AllByRecursion (FitsTest c) us
+  pub after_amend : (k o n : ℕ) → amended ts k o n ≡ Ok us → AllByRecursion (FitsTest c) us
+  pub after_strike : struck ts ≡ Ok us → AllByRecursion (FitsTest c) us
 
 abbrev pub TestsStayFit : Type 0
-TestsStayFit = (c : Circuit) (ts us : List Test) → All (FitsTest c) ts → StayFit c ts us
+TestsStayFit = (c : Circuit) (ts us : List Test) → AllByRecursion (FitsTest c) ts → StayFit c ts us

@@ -1,6 +1,6 @@
 -- One test more.
 use Rattle.std.proofs.Common.{◌≡◌, ℕ, min, List, length, sym, ap, ◌∙◌, subst, arith, length-set}
-use Rattle.std.specs.List.{AllByRecursion as All}
+use Rattle.std.specs.List.{AllByRecursion}
 use Rattle.std.proofs.lemmas.List.{length-take-le}
 use Rattle.circuit.specs.Held.{circuit_of}
 use Rattle.diagnosis.specs.Readings.{reading}
@@ -31,7 +31,7 @@ read_test-requires g c =
     record {
       sound = c.requires.sound;
       sizes = (omega arith, (omega arith, omega arith));
-      reads = subst (λ (S : List ℕ). All (Readable V c.variables_before-base.result c.inputs.result) S) (sym c.gates.ensures) (subst (λ (b : ℕ). All (Readable V b c.inputs.result) (set_of s)) (sym before) (subst (λ (i : ℕ). All (Readable V (base cc N t) i) (set_of s)) (sym is) known));
+      reads = subst (λ (S : List ℕ). AllByRecursion (Readable V c.variables_before-base.result c.inputs.result) S) (sym c.gates.ensures) (subst (λ (b : ℕ). AllByRecursion (Readable V b c.inputs.result) (set_of s)) (sym before) (subst (λ (i : ℕ). AllByRecursion (Readable V (base cc N t) i) (set_of s)) (sym is) known));
     }
 
 pub loop-t-preserved : goal.loop-t-preserved
