@@ -2,7 +2,7 @@
 """An independent reading of netlists and test logs, written from docs/FORMATS.md and docs/REFUSALS.md alone.
 
     inspect_reference.py FOLDER                 prints what `inspect` prints in that folder, without the sentences
-    inspect_reference.py --compare PROGRAM [N]  makes N random cases, good and damaged, and compares with PROGRAM (target/bin/inspect)
+    inspect_reference.py --compare PROGRAM [N]  makes N random cases, good and damaged, and compares with PROGRAM (crates/inspect/out/inspect)
 """
 import os
 import random

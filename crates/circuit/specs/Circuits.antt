@@ -1,10 +1,10 @@
 -- Circuits without names, as the definitions speak of them.
---   Gate, Circuit     a gate by its kind and operands; a circuit by its number of inputs, its gates in order, and the signals at its outputs
---   there   whether a signal is an input, or one of the first gates
---   fits, wired       whether a gate, or a row of gates, may come after so many others
---   gate_of   the gate that the code's table holds
---   with_gate, ..      a circuit with one input, gate or output more
---   Sound   a circuit within the limits, whose operands come before their gates and whose outputs are signals of it
+--   Gate, Circuit   a gate by its kind and operands; a circuit by its number of inputs, its gates in order, and the signals at its outputs
+--   there           whether a signal is an input, or one of the first gates
+--   fits, wired     whether a gate, or a row of gates, may come after so many others
+--   gate_of         the gate that the code's table holds
+--   with_gate, ..   a circuit with one input, gate or output more
+--   Sound           a circuit within the limits, whose operands come before their gates and whose outputs are signals of it
 use Rattle.std.specs.Prelude.{◌≡◌, ℕ, suc, ◌≤◌, Bool, true, ◌&&◌, List, [], ◌∷◌, ◌++◌, length, nat_le}
 use Rattle.circuit.specs.declared.kind.Kind.{Kind}
 use Rattle.circuit.specs.declared.gate.Signal.{Signal}

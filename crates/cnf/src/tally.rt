@@ -2,7 +2,7 @@
 ghost use Rattle.std.specs.Prelude.{◌≡◌};
 ghost use Rattle.cnf.specs.Tallied.{Tallied};
 ghost use Rattle.cnf.specs.TalliedLaws.{tallied_none, tallied_both};
-ghost use Rattle.cnf_theory.specs.Sizes.{price as price-of};
+ghost use Rattle.cnf_theory.specs.Sizes.{price as price_of};
 
 use crate::sink::ClauseSink;
 
@@ -16,7 +16,7 @@ pub struct Tally {
 
 // What a clause of so many literals takes of a solver's room.
 fn price(length: usize) -> usize
-    ensures { result ≡ price-of length }
+    ensures { result ≡ price_of length }
 {
     if length <= 3 { 1 } else { length - 2 }
 }

@@ -4,7 +4,7 @@ ghost use Rattle.std.specs.List.{AllByRecursion};
 ghost use Rattle.circuit.specs.Held.{circuit_of};
 ghost use Rattle.diagnosis.specs.Sets.{IsSet};
 ghost use Rattle.diagnosis.specs.Readings.{reading};
-ghost use Rattle.cnf_theory.specs.Variables.{base as base-of, forced_variable};
+ghost use Rattle.cnf_theory.specs.Variables.{base as base_of, forced_variable};
 ghost use Rattle.gate_set.specs.Held.{set_of};
 ghost use Rattle.lister.specs.Readings.{told, Readable};
 
@@ -62,9 +62,9 @@ pub(crate) fn read_tests<S: Solver>(
     requires sound { S.Solver.sound solver.now }
     requires tests { tests ≤ 32 }
     requires set { IsSet (length (circuit_of circuit.now).gates) (set_of set.now) }
-    requires vars { base-of (circuit_of circuit.now) bound.value tests ≤ (S.Solver.meaning solver.now).vars }
+    requires vars { base_of (circuit_of circuit.now) bound.value tests ≤ (S.Solver.meaning solver.now).vars }
     ensures len { length result ≡ 32 }
-    ensures value { (t : ℕ) → t < tests → slice_index result t ≡ reading (set_of set.now) (λ g. told (S.Solver.meaning solver.now).shown (forced_variable (base-of (circuit_of circuit.now) bound.value t) (circuit_of circuit.now).inputs g)) }
+    ensures value { (t : ℕ) → t < tests → slice_index result t ≡ reading (set_of set.now) (λ g. told (S.Solver.meaning solver.now).shown (forced_variable (base_of (circuit_of circuit.now) bound.value t) (circuit_of circuit.now).inputs g)) }
 {
     let mut readings = [0; 32];
     for t in 0..tests {

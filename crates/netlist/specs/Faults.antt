@@ -1,7 +1,7 @@
 -- The number, line and column of each fault.
 --   number       the question that a fault of a line says no to
 --   refusal_of   the refusal that a fault of a text is
---   told, ..    an answer, with what is held then
+--   told, ..     an answer, with what is held then
 use Rattle.std.specs.Prelude.{ℕ, Ok, Err, Result}
 use Rattle.refusal.specs.declared.Refusal.{Refusal}
 use Rattle.netlist_text.specs.Meaning.{refusal}

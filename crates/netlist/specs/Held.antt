@@ -1,7 +1,7 @@
 -- What a place for a netlist holds.
---   held_by   the netlist that is in, if one is
---   kept      what is in after a load
---   SoundIn   a sound netlist is in
+--   held_by                             the netlist that is in, if one is
+--   kept                                what is in after a load
+--   SoundIn                             a sound netlist is in
 --   circuit_in, input_name, gate_name   the circuit that is in, and the name of an input or a gate of it, by number
 use Rattle.std.specs.Prelude.{ℕ, zero, suc, Bool, true, false, List, Some, None, Ok, Err, Option, Result}
 use Rattle.std.specs.List.{slice_get}

@@ -1,8 +1,8 @@
 -- The bytes of a netlist text: its lines, and the words and signs of a line.
---   lines     the lines of a text, without the byte 10 that ends each
---   stray     the column of the first byte that may not stand in a line
---   skipped   whether a line is empty or a comment
---   lexemes   the words and signs of a line, in order
+--   lines                the lines of a text, without the byte 10 that ends each
+--   stray                the column of the first byte that may not stand in a line
+--   skipped              whether a line is empty or a comment
+--   lexemes              the words and signs of a line, in order
 --   line_len, word_len   how far the first line, the first word reaches
 use Rattle.std.specs.Prelude.{ℕ, suc, ◌+◌, Bool, true, false, cond, ◌||◌, List, [], ◌∷◌, Some, None, Option, ◌==◌}
 use Rattle.std.specs.Char.{is_ascii_alphanumeric}

@@ -1,13 +1,13 @@
 -- Runs on a small circuit: one that is lawful, and some that are not, each wrong in its last event.
---   text_p   m = AND(a, b), y = OR(m, c), z = NOT(m), with inputs a, b, c and outputs y, z; its gates m, y, z have the numbers 1, 2, 3
---   roomy, cramped        the sizes of a solver that has enough at each next below, and of one with too little room
---   done   a call that is done
---   loaded, recorded      this netlist is loaded; a test is recorded, in which a and b are 1, c is 0, and y was measured as 0 and z as 1
---   unmeasured   the test is amended: y was not measured
---   opened       a list of the sets of at most 2 gates is opened
---   gives, says_end        a next over the roomy solver gives this set, or says end
---   tells   the reading of the test is told, as this byte
---   no_to, refused_by       the refusal that a no to the question of this number gives; a call that it refuses
+--   text_p              m = AND(a, b), y = OR(m, c), z = NOT(m), with inputs a, b, c and outputs y, z; its gates m, y, z have the numbers 1, 2, 3
+--   roomy, cramped      the sizes of a solver that has enough at each next below, and of one with too little room
+--   done                a call that is done
+--   loaded, recorded    this netlist is loaded; a test is recorded, in which a and b are 1, c is 0, and y was measured as 0 and z as 1
+--   unmeasured          the test is amended: y was not measured
+--   opened              a list of the sets of at most 2 gates is opened
+--   gives, says_end     a next over the roomy solver gives this set, or says end
+--   tells               the reading of the test is told, as this byte
+--   no_to, refused_by   the refusal that a no to the question of this number gives; a call that it refuses
 --   begun               netlist and test are in and the list is open; the full list is 1, then 2 and 3
 --   WrongRunsUnlawful   what might go wrong in a run; none of it is lawful
 --   first_list          this list up to its end, with a reading, a call that is not due, and a next after the end

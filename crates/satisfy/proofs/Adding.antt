@@ -1,7 +1,7 @@
 -- One clause more of a list.
-use Rattle.std.proofs.Common.{◌≡◌, ℕ, suc, ◌+◌, ◌-◌, ◌<◌, Bool, true, false, leb, List, [], ◌∷◌, ◌++◌, length, get_or, take, drop, ℤ, is_some, Some, None, Option, sym, refl, ap, ◌∙◌, add-one, arith, drop-cons, Bor}
+use Rattle.std.proofs.Common.{◌≡◌, ℕ, suc, ◌+◌, ◌-◌, ◌<◌, Bool, true, false, leb, List, [], ◌∷◌, ◌++◌, length, get_or, take, drop, ℤ, is_some, None, Option, sym, refl, ap, ◌∙◌, add-one, arith, drop-cons, Bor}
 use Rattle.std.proofs.lemmas.List.{take_more}
-use Rattle.std.proofs.lemmas.Bool.{and_from, and_parts, true≢false, false≢true}
+use Rattle.std.proofs.lemmas.Bool.{and_from, and_parts, true≢false}
 use Rattle.solver.specs.Rows.{Row, some_true, all_named, price}
 use Rattle.solver.specs.Meaning.{Meaning, Added}
 use Rattle.solver.specs.Refusals.{asked, add_refusal}
@@ -36,21 +36,10 @@ passed true true false rest h = absurd (true≢false (ap is_some h))
 passed true false d rest h = absurd (true≢false (ap is_some h))
 passed false b d rest h = absurd (true≢false (ap is_some h))
 
-stopped : (a b d : Bool) (rest : Option ℕ) (k : ℕ) → asked 22 a (asked 21 b (asked 23 d None)) ≡ Some k → asked 22 a (asked 21 b (asked 23 d rest)) ≡ Some k
-stopped true true true rest k h = absurd (false≢true (ap is_some h))
-stopped true true false rest k h = h
-stopped true false d rest k h = h
-stopped false b d rest k h = h
-
 module _ (m n : Meaning) (cs : Clauses) (i : ℕ) (d : Bor (List ℤ)) (l : i < length cs) (h : Narrowed m (take i cs) n) where
   -- what is asked of the clauses left, as the solver now stands
   opened : adds_refusal m.sizes m.vars n.room (drop i cs) ≡ adds_refusal n.sizes n.vars n.room (get_or cs i d ∷ drop (suc i) cs)
   opened = ap (λ z. adds_refusal z m.vars n.room (drop i cs)) (sym h.sizes) ∙ ap (λ v. adds_refusal n.sizes v n.room (drop i cs)) (sym h.vars) ∙ ap (adds_refusal n.sizes n.vars n.room) (drop-cons cs i d l)
-
-  pub adds_stop : (k : ℕ) → Some k ≡ add_refusal n (get_or cs i d).now → adds_refusal m.sizes m.vars n.room (drop i cs) ≡ Some k
-  adds_stop k e =
-      let x = (get_or cs i d).now in
-      opened ∙ stopped (leb (length x) n.sizes.width) (all_named n.vars x) (leb (price (length x)) n.room) (adds_refusal n.sizes n.vars (n.room - price (length x)) (drop (suc i) cs)) k (sym e)
 
   pub adds_more : (k : Meaning) → None ≡ add_refusal n (get_or cs i d).now → Added n (get_or cs i d).now k → adds_refusal m.sizes m.vars n.room (drop i cs) ≡ adds_refusal m.sizes m.vars k.room (drop (i + 1) cs)
   adds_more k e a =

@@ -1,7 +1,7 @@
 -- The law of every operation on values: in each lane a result stands for every bit that the operands' bits can give, and for no other.
 --   Follows, Follows2   the law of an operation on one operand, and on two
---   xor            exclusive or of two bits
---   ImagesFollow   the images are what the law asks for, and nothing else is
+--   xor                 exclusive or of two bits
+--   ImagesFollow        the images are what the law asks for, and nothing else is
 use Rattle.std.specs.Prelude.{◌≡◌, Bool, true, not, ◌↔◌}
 use Rattle.std.specs.Bool.{beq}
 use Rattle.signal_value.specs.Possible.{Possible, includes, image, image2}

@@ -1,10 +1,10 @@
 -- Rows of values, and what literals say of them.
---   Row     a value for each variable, numbered from 1
---   holds   whether a literal, v or -v, is true in a row
---   some_true, all_true  whether some literal of a clause, or each assumed literal, is true in a row
---   named, all_named     whether a literal's variable, or each one's, is in 1 to vars
---   price   what a clause of so many literals takes of the room
---   Agree   two rows have the same values at the variables 1 to vars
+--   Row                   a value for each variable, numbered from 1
+--   holds                 whether a literal, v or -v, is true in a row
+--   some_true, all_true   whether some literal of a clause, or each assumed literal, is true in a row
+--   named, all_named      whether a literal's variable, or each one's, is in 1 to vars
+--   price                 what a clause of so many literals takes of the room
+--   Agree                 two rows have the same values at the variables 1 to vars
 use Rattle.std.specs.Prelude.{◌≡◌, ℕ, suc, ◌-◌, ◌≤◌, Bool, cond, not, ◌&&◌, List, ℤ, pos, negsuc, nat_le, nat_lt, unsigned_abs}
 use Rattle.solver.specs.Lists.{all, any}
 

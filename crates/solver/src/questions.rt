@@ -1,6 +1,6 @@
 // What every solver asks of a call before it takes it.
 ghost use Rattle.std.specs.Prelude.{◌≡◌};
-ghost use Rattle.solver.specs.Rows.{named, all_named, price as price-of};
+ghost use Rattle.solver.specs.Rows.{named, all_named, price as price_of};
 ghost use Rattle.solver.specs.Refusals.{number as number_of_lem};
 
 use super::SolverFault;
@@ -42,7 +42,7 @@ pub fn all_named(vars: usize, literals: &[i32]) -> bool
 
 // The price of a clause of so many literals.
 pub fn price(length: usize) -> usize
-    ensures { result ≡ price-of length }
+    ensures { result ≡ price_of length }
 {
     if length <= 3 { 1 } else { length - 2 }
 }

@@ -4,13 +4,13 @@
 --   written         the record of a test
 --   map_of          the map in a record
 --   record_length   how many bytes a record takes, by its map
---   map_group, ..  the bytes of each group
---   clear       whether each bit of a group is 0, but for so many at its front
---   all_clear   whether each unused bit of a record is 0
---   filled      the outputs that a map and the values measured give
---   given       the test that a record gives
---   recorded    the tests held after one more record, or the refusal of it
---   Recorded    one test more is held: one of the circuit, that has these bytes for its record
+--   map_group, ..   the bytes of each group
+--   clear           whether each bit of a group is 0, but for so many at its front
+--   all_clear       whether each unused bit of a record is 0
+--   filled          the outputs that a map and the values measured give
+--   given           the test that a record gives
+--   recorded        the tests held after one more record, or the refusal of it
+--   Recorded        one test more is held: one of the circuit, that has these bytes for its record
 use Rattle.std.specs.Prelude.{◌≡◌, ℕ, ◌+◌, Bool, true, false, cond, not, ◌&&◌, List, [], ◌∷◌, ◌++◌, map, length, take, drop, is_some, Some, None, Ok, Err, Option, Result, ◌==◌, nat_lt, slice_index_or}
 use Rattle.refusal.specs.declared.Refusal.{Refusal}
 use Rattle.circuit.specs.Lists.{all}
