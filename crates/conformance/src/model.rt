@@ -1,4 +1,10 @@
 // A truth table of up to 10 variables: the plainest solver.
+ghost use Rattle.std.specs.Prelude.{◌≡◌, ◌↔◌, None, IsTrue, IfOk, OnOk, OnErr, IfSome, nat_le};
+ghost use Rattle.solver.specs.Lists.{all, any};
+ghost use Rattle.solver.specs.Rows.{all_named};
+ghost use Rattle.solver.specs.Refusals.{refusal, asked};
+ghost use Rattle.conformance.specs.TruthTables.{row_of, true_in, sizes_of, add_asked, value_asked, may_show, IsFresh, AddsClause, IsSatisfiable, SameTable};
+
 use solver::{Solver, SolverFault};
 
 const ROWS: usize = 1024;
@@ -14,7 +20,9 @@ pub struct Model {
     shown: Option<usize>,
 }
 
-fn literal_true(row: usize, literal: i32) -> bool {
+fn literal_true(row: usize, literal: i32) -> bool
+    ensures { result ≡ true_in row literal }
+{
     let variable = literal.unsigned_abs();
     if variable == 0 || variable > 10 {
         return false;
@@ -23,7 +31,9 @@ fn literal_true(row: usize, literal: i32) -> bool {
     if literal > 0 { value } else { !value }
 }
 
-fn some_true(row: usize, literals: &[i32]) -> bool {
+fn some_true(row: usize, literals: &[i32]) -> bool
+    ensures { result ≡ any (true_in row) literals.now }
+{
     for literal in literals {
         if literal_true(row, *literal) {
             return true;
@@ -32,7 +42,9 @@ fn some_true(row: usize, literals: &[i32]) -> bool {
     false
 }
 
-fn all_true(row: usize, literals: &[i32]) -> bool {
+fn all_true(row: usize, literals: &[i32]) -> bool
+    ensures { result ≡ all (true_in row) literals.now }
+{
     for literal in literals {
         if !literal_true(row, *literal) {
             return false;
@@ -41,7 +53,9 @@ fn all_true(row: usize, literals: &[i32]) -> bool {
     true
 }
 
-fn all_known(vars: usize, literals: &[i32]) -> bool {
+fn all_known(vars: usize, literals: &[i32]) -> bool
+    ensures { result ≡ all_named vars literals.now }
+{
     for literal in literals {
         let variable = literal.unsigned_abs() as usize;
         if variable == 0 || variable > vars {
@@ -53,11 +67,17 @@ fn all_known(vars: usize, literals: &[i32]) -> bool {
 
 impl Model {
     // The truth table of a solver's sizes.
-    pub fn of<S: Solver>(solver: &S) -> Model {
+    pub fn of<S: Solver>(solver: &S) -> Model
+        ensures sizes { sizes_of result ≡ (S.Solver.meaning solver.now).sizes }
+        ensures fresh { IsFresh 0 result }
+    {
         Model::new(solver.capacity(), solver.width(), solver.full_room())
     }
 
-    pub fn new(capacity: usize, width: usize, full: usize) -> Model {
+    pub fn new(capacity: usize, width: usize, full: usize) -> Model
+        ensures sizes { sizes_of result ≡ record { capacity = capacity; width = width; full = full } }
+        ensures fresh { IsFresh 0 result }
+    {
         Model {
             capacity,
             width,
@@ -69,7 +89,12 @@ impl Model {
         }
     }
 
-    pub fn begin(&mut self, vars: usize) -> Result<(), SolverFault> {
+    pub fn begin(&mut self, vars: usize) -> Result<(), SolverFault>
+        ensures refused { refusal result ≡ asked 20 (nat_le vars self.old.capacity) None }
+        ensures fresh { OnOk result (IsFresh vars self.new) }
+        ensures sizes { sizes_of self.new ≡ sizes_of self.old }
+        ensures untouched { OnErr result (self.new ≡ self.old) }
+    {
         if vars > self.capacity {
             return Err(SolverFault::TooManyVariables);
         }
@@ -80,7 +105,12 @@ impl Model {
         Ok(())
     }
 
-    pub fn add(&mut self, clause: &[i32]) -> Result<(), SolverFault> {
+    pub fn add(&mut self, clause: &[i32]) -> Result<(), SolverFault>
+        ensures refused { refusal result ≡ add_asked self.old clause.now }
+        ensures added { OnOk result (AddsClause self.old self.new clause.now) }
+        ensures sizes { sizes_of self.new ≡ sizes_of self.old }
+        ensures untouched { OnErr result (self.new ≡ self.old) }
+    {
         if clause.len() > self.width {
             return Err(SolverFault::TooLong);
         }
@@ -104,7 +134,10 @@ impl Model {
     }
 
     // Whether some row is wanted; which one a solver shows is open.
-    pub fn solve(&self, assumed: &[i32]) -> Result<bool, SolverFault> {
+    pub fn solve(&self, assumed: &[i32]) -> Result<bool, SolverFault>
+        ensures refused { refusal result ≡ asked 21 (all_named self.now.vars assumed.now) None }
+        ensures answer { IfOk result (λ yes. IsTrue yes ↔ IsSatisfiable self.now assumed.now) }
+    {
         if !all_known(self.vars, assumed) {
             return Err(SolverFault::UnknownVariable);
         }
@@ -117,7 +150,11 @@ impl Model {
     }
 
     // Takes over the row that a solver shows, if any, and says whether it may show that.
-    pub fn show(&mut self, row: Option<usize>, assumed: &[i32]) -> bool {
+    pub fn show(&mut self, row: Option<usize>, assumed: &[i32]) -> bool
+        ensures value { result ≡ may_show self.old row assumed.now }
+        ensures shown { self.new.shown ≡ row }
+        ensures same { SameTable self.old self.new }
+    {
         self.shown = row;
         match row {
             None => true,
@@ -125,7 +162,10 @@ impl Model {
         }
     }
 
-    pub fn value(&self, variable: usize) -> Result<bool, SolverFault> {
+    pub fn value(&self, variable: usize) -> Result<bool, SolverFault>
+        ensures refused { refusal result ≡ value_asked self.now variable }
+        ensures value { IfOk result (λ b. IfSome self.now.shown (λ n. b ≡ row_of n variable)) }
+    {
         match self.shown {
             Some(row) if 0 < variable && variable <= self.vars && variable <= 10 => Ok(
                 (row >> (variable - 1)) % 2 == 1,
@@ -134,11 +174,15 @@ impl Model {
         }
     }
 
-    pub fn full_room(&self) -> usize {
+    pub fn full_room(&self) -> usize
+        ensures { result ≡ self.now.full }
+    {
         self.full
     }
 
-    pub fn vars(&self) -> usize {
+    pub fn vars(&self) -> usize
+        ensures { result ≡ self.now.vars }
+    {
         self.vars
     }
 }

@@ -1,5 +1,5 @@
 // Pseudo-random calls: good ones, and ones that each question is to refuse.
-ghost use Rattle.std.specs.Prelude.{◌<◌, ◌≤◌};
+ghost use Rattle.std.specs.Prelude.{◌≡◌, ◌<◌, ◌≤◌, take};
 
 #[derive(Clone, Copy)]
 pub struct Literals {
@@ -9,7 +9,9 @@ pub struct Literals {
 }
 
 impl Literals {
-    pub fn as_slice(&self) -> &[i32] {
+    pub fn as_slice(&self) -> &[i32]
+        ensures { result.now ≡ take self.now.len self.now.places }
+    {
         &self.places[0..self.len]
     }
 }
@@ -34,7 +36,11 @@ pub struct Script {
 }
 
 impl Script {
-    pub fn new(seed: u32, most: u32, every: u32) -> Script {
+    ghost use Rattle.conformance.specs.Scripts.{KeepsTo, SameSettings, Starts};
+
+    pub fn new(seed: u32, most: u32, every: u32) -> Script
+        ensures { Starts seed most every 18 result }
+    {
         Script {
             seed,
             vars: 0,
@@ -45,7 +51,9 @@ impl Script {
     }
 
     // The same, with clauses of up to three literals.
-    pub fn of_threes(seed: u32, most: u32, every: u32) -> Script {
+    pub fn of_threes(seed: u32, most: u32, every: u32) -> Script
+        ensures { Starts seed most every 3 result }
+    {
         let mut script = Script::new(seed, most, every);
         script.longest = 3;
         script
@@ -53,14 +61,17 @@ impl Script {
 
     fn pick(&mut self, below: u32) -> u32
         requires { 0 < below }
-        ensures { result < below }
+        ensures below { result < below }
+        ensures settings { SameSettings self.old self.new }
     {
         self.seed = self.seed.wrapping_mul(1664525).wrapping_add(1013904223);
         (self.seed >> 8) % below
     }
 
     // A literal of a variable in use, if there is one.
-    fn literal(&mut self) -> i32 {
+    fn literal(&mut self) -> i32
+        ensures { SameSettings self.old self.new }
+    {
         let variable = (self.pick(self.vars.max(1)) + 1) as i32;
         if self.pick(2) == 0 {
             variable
@@ -70,7 +81,9 @@ impl Script {
     }
 
     // A literal of no variable in use.
-    fn stranger(&mut self) -> i32 {
+    fn stranger(&mut self) -> i32
+        ensures { SameSettings self.old self.new }
+    {
         let next = (self.vars + 1) as i32;
         match self.pick(4) {
             0 => 0,
@@ -83,6 +96,8 @@ impl Script {
     // So many literals; one list in eight may have one of no variable in use.
     fn literals(&mut self, len: usize) -> Literals
         requires { len ≤ 18 }
+        ensures length { result.len ≡ len }
+        ensures settings { SameSettings self.old self.new }
     {
         let mut places = [0; 18];
         for place in places.iter_mut() {
@@ -97,7 +112,9 @@ impl Script {
 
     // The length of a clause: seldom 0, which leaves no row, and half the time at most 4.
     fn length(&mut self) -> usize
-        ensures { result ≤ 18 }
+        ensures few { result ≤ 18 }
+        ensures within { result ≤ self.old.longest }
+        ensures settings { SameSettings self.old self.new }
     {
         let length = match self.pick(32) {
             0 => 0,
@@ -107,7 +124,10 @@ impl Script {
         length.min(self.longest)
     }
 
-    fn begin(&mut self) -> Call {
+    fn begin(&mut self) -> Call
+        ensures within { KeepsTo self.old.longest result }
+        ensures settings { SameSettings self.old self.new }
+    {
         match self.pick(8) {
             0 => Call::Begin(usize::MAX),
             1 => Call::Begin(25),
@@ -118,7 +138,10 @@ impl Script {
         }
     }
 
-    pub fn next(&mut self) -> Call {
+    pub fn next(&mut self) -> Call
+        ensures within { KeepsTo self.old.longest result }
+        ensures settings { SameSettings self.old self.new }
+    {
         if self.pick(self.every) == 0 {
             return self.begin();
         }

@@ -1,4 +1,7 @@
 // What came of the calls played.
+ghost use Rattle.std.specs.Prelude.{◌≡◌, ◌+◌, ◌*◌, ◌-◌, ◌%◌, ◌^◌, ◌<◌, ◌↔◌, IsTrue, slice_index, slice_set};
+ghost use Rattle.conformance.specs.Tallies.{up, CountsAnswer};
+
 use std::fmt;
 
 #[derive(Clone, Copy)]
@@ -24,7 +27,9 @@ impl Tally {
     };
 
     // Counts an answer, as a code: 0 no, 1 yes, 2 done, 3 and 4 a value, or the number of a refusal.
-    pub fn count(&mut self, told: u8, expected: u8) {
+    pub fn count(&mut self, told: u8, expected: u8)
+        ensures { CountsAnswer self.old self.new told expected }
+    {
         self.calls = self.calls.saturating_add(1);
         if told != expected {
             self.mismatch();
@@ -37,23 +42,31 @@ impl Tally {
         }
     }
 
-    fn refuse(&mut self, kind: usize) {
+    fn refuse(&mut self, kind: usize)
+        ensures { kind < 5 → self.new ≡ record self.old { refused = slice_set self.old.refused kind (up (slice_index self.old.refused kind)) } }
+    {
         if kind < 5 {
             self.refused[kind] = self.refused[kind].saturating_add(1);
         }
     }
 
-    pub fn mismatch(&mut self) {
+    pub fn mismatch(&mut self)
+        ensures { self.new ≡ record self.old { mismatches = up self.old.mismatches } }
+    {
         self.mismatches = self.mismatches.saturating_add(1);
     }
 
     // Takes an answer that leaves no choice into the digest.
-    pub fn fix(&mut self, told: u8) {
+    pub fn fix(&mut self, told: u8)
+        ensures { self.new ≡ record self.old { digest = (self.old.digest * 31 + told) % 2 ^ 32 } }
+    {
         self.digest = self.digest.wrapping_mul(31).wrapping_add(u32::from(told));
     }
 
     // Whether two solvers gave the same answers.
-    pub fn agrees(&self, other: &Tally) -> bool {
+    pub fn agrees(&self, other: &Tally) -> bool
+        ensures { IsTrue result ↔ (self.now.digest ≡ other.now.digest) }
+    {
         self.digest == other.digest
     }
 }

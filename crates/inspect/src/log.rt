@@ -1,10 +1,24 @@
 // The tests of a log, recorded one after another and described.
+ghost use Rattle.std.specs.Prelude.{◌≡◌};
+ghost use Rattle.std.specs.Option.{option_map};
+ghost use Rattle.std.specs.Result.{result_err};
+ghost use Rattle.circuit.specs.Held.{circuit_of};
+ghost use Rattle.test_format.specs.Logs.{pieces};
+ghost use Rattle.testlog.specs.Held.{tests_of};
+ghost use Rattle.testlog.specs.Faults.{refusal_of};
+ghost use Rattle.inspect.specs.Records.{first_refusal, held_after};
+
 use circuit::Circuit;
 use std::io;
 use testlog::{RecordFault, Test, TestTable, cut};
 
 // Records every piece of a log; the first that is refused ends it, with so many tests held as were taken before.
-pub fn record_all(circuit: &Circuit, tests: &mut TestTable, log: &[u8]) -> Result<(), RecordFault> {
+pub fn record_all(circuit: &Circuit, tests: &mut TestTable, log: &[u8]) -> Result<(), RecordFault>
+    ensures refused { option_map refusal_of (result_err result)
+        ≡ first_refusal (circuit_of circuit.now) (tests_of tests.old) (pieces (circuit_of circuit.now) log.now) }
+    ensures after { tests_of tests.new
+        ≡ held_after (circuit_of circuit.now) (tests_of tests.old) (pieces (circuit_of circuit.now) log.now) }
+{
     let mut rest = log;
     while !rest.is_empty() {
         let (piece, after) = cut(circuit, rest);

@@ -1,4 +1,11 @@
 // A circuit with a table of its tests, to try records on.
+ghost use Rattle.std.specs.Prelude.{◌≡◌, [], IfOk, OnOk};
+ghost use Rattle.circuit.specs.Held.{circuit_of};
+ghost use Rattle.test_format.specs.Records.{recorded};
+ghost use Rattle.test_format.specs.Amending.{amended, struck};
+ghost use Rattle.testlog.specs.Held.{tests_of};
+ghost use Rattle.testlog.specs.Faults.{kept};
+
 use crate::shown::{print_bytes, print_test};
 use circuit::{Circuit, Gate, Kind, Operands, Signal};
 use std::alloc::{AllocError, Global};
@@ -30,7 +37,9 @@ fn inverters(heap: Global, inputs: usize, outputs: usize) -> Result<Circuit, All
 }
 
 impl Bench {
-    pub fn new(heap: Global, inputs: usize, outputs: usize) -> Result<Bench, AllocError> {
+    pub fn new(heap: Global, inputs: usize, outputs: usize) -> Result<Bench, AllocError>
+        ensures { IfOk result (λ bench. tests_of bench.table ≡ []) }
+    {
         let circuit = inverters(heap, inputs, outputs)?;
         let table = TestTable::new(heap)?;
         Ok(Bench { circuit, table })
@@ -45,7 +54,11 @@ impl Bench {
     }
 
     // Records bytes, and prints them with the test that they gave, or the refusal.
-    pub fn record(&mut self, rt: &HostRuntime, bytes: &[u8]) -> io::Result<()> {
+    pub fn record(&mut self, rt: &HostRuntime, bytes: &[u8]) -> io::Result<()>
+        ensures circuit { self.new.circuit ≡ self.old.circuit }
+        ensures after { OnOk result (tests_of self.new.table
+            ≡ kept (tests_of self.old.table) (recorded (circuit_of self.old.circuit) (tests_of self.old.table) bytes.now)) }
+    {
         print_bytes(rt, bytes)?;
         if let Err(fault) = self.table.record(&self.circuit, bytes) {
             let refusal = fault.refusal();
@@ -58,13 +71,19 @@ impl Bench {
     }
 
     // Records bytes, and prints only whether they were taken.
-    pub fn answer(&mut self, rt: &HostRuntime, bytes: &[u8]) -> io::Result<()> {
+    pub fn answer(&mut self, rt: &HostRuntime, bytes: &[u8]) -> io::Result<()>
+        ensures circuit { self.new.circuit ≡ self.old.circuit }
+        ensures after { OnOk result (tests_of self.new.table
+            ≡ kept (tests_of self.old.table) (recorded (circuit_of self.old.circuit) (tests_of self.old.table) bytes.now)) }
+    {
         let answer = self.table.record(&self.circuit, bytes);
         Bench::print_answer(rt, answer)
     }
 
     // Tries each length, from no byte to two more than there are.
-    pub fn try_lengths(&mut self, rt: &HostRuntime, record: &[u8]) -> io::Result<()> {
+    pub fn try_lengths(&mut self, rt: &HostRuntime, record: &[u8]) -> io::Result<()>
+        ensures { self.new.circuit ≡ self.old.circuit }
+    {
         let mut bytes = Vec::from_slice(rt.alloc(), record)?;
         print!(rt; "lengths")?;
         for n in 0..record.len() {
@@ -86,7 +105,9 @@ impl Bench {
     }
 
     // Tries the bytes with each bit of them turned, lowest first.
-    pub fn try_bits(&mut self, rt: &HostRuntime, record: &[u8]) -> io::Result<()> {
+    pub fn try_bits(&mut self, rt: &HostRuntime, record: &[u8]) -> io::Result<()>
+        ensures { self.new.circuit ≡ self.old.circuit }
+    {
         let mut bytes = Vec::from_slice(rt.alloc(), record)?;
         print!(rt; "bits")?;
         for i in 0..record.len() {
@@ -101,7 +122,9 @@ impl Bench {
     }
 
     // Cuts a log, and records each piece.
-    pub fn record_log(&mut self, rt: &HostRuntime, log: &[u8]) -> io::Result<()> {
+    pub fn record_log(&mut self, rt: &HostRuntime, log: &[u8]) -> io::Result<()>
+        ensures { self.new.circuit ≡ self.old.circuit }
+    {
         let mut rest = log;
         while !rest.is_empty() {
             let (piece, behind) = cut(&self.circuit, rest);
@@ -118,7 +141,11 @@ impl Bench {
         test: usize,
         output: usize,
         value: u8,
-    ) -> io::Result<()> {
+    ) -> io::Result<()>
+        ensures circuit { self.new.circuit ≡ self.old.circuit }
+        ensures after { OnOk result (tests_of self.new.table
+            ≡ kept (tests_of self.old.table) (amended (tests_of self.old.table) test output value)) }
+    {
         print!(rt; "amend {test} {output} {value}:")?;
         let answer = self.table.amend(test, output, value);
         Bench::print_answer(rt, answer)?;
@@ -126,7 +153,11 @@ impl Bench {
     }
 
     // Strikes the last test, and prints those left.
-    pub fn strike(&mut self, rt: &HostRuntime) -> io::Result<()> {
+    pub fn strike(&mut self, rt: &HostRuntime) -> io::Result<()>
+        ensures circuit { self.new.circuit ≡ self.old.circuit }
+        ensures after { OnOk result (tests_of self.new.table
+            ≡ kept (tests_of self.old.table) (struck (tests_of self.old.table))) }
+    {
         print!(rt; "strike:")?;
         let answer = self.table.strike();
         Bench::print_answer(rt, answer)?;

@@ -13,6 +13,11 @@ pub struct Refusal {
 
 // As the programs print it: `! number line column`.
 impl fmt::Display for Refusal {
+    ghost use Rattle.std.specs.Prelude.{Some};
+    ghost use Rattle.refusal.specs.Printed.{printed};
+
+    ghost output = { λ r. Some (printed r) };
+
     fn fmt<W: fmt::Write>(&self, f: &mut fmt::Formatter<W>) -> fmt::Result {
         let number = self.number;
         let line = self.line;

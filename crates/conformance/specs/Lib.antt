@@ -1,0 +1,3 @@
+pub mod TruthTables
+pub mod Tallies
+pub mod Scripts
