@@ -1,14 +1,14 @@
 // What every solver asks of a call before it takes it.
 ghost use Rattle.std.specs.Prelude.{◌≡◌};
 ghost use Rattle.solver.specs.Rows.{named, all_named, price as price_of};
-ghost use Rattle.solver.specs.Refusals.{number as number_of_lem};
+ghost use Rattle.solver.specs.Refusals.{number as number_of};
 
 use super::SolverFault;
 
 impl SolverFault {
     // The number by which users know a refusal.
     pub fn number(self) -> u8
-        ensures { result ≡ number_of_lem self }
+        ensures { result ≡ number_of self }
     {
         match self {
             SolverFault::TooManyVariables => 20,
