@@ -3,26 +3,26 @@ use Rattle.std.proofs.Common.{◌≡◌, ℕ, zero, suc, ◌+◌, ◌%◌, ◌<�
 use Rattle.std.proofs.lemmas.Bool.{and_parts, and_from, or_cases, or_left, or_right, both_ways}
 use Rattle.circuit.specs.declared.kind.Kind.TheVariants.{Not}
 use Rattle.circuit.specs.Kinds.{gives, odd}
-use Rattle.circuit.specs.Lists.{all, any}
+use Rattle.std.specs.List.{list_all, list_any}
 use Rattle.circuit.specs.KindLaws.{ones, KindsAsNamed}
 
-every_one : (bs : List Bool) → all (λ b. b) bs ≡ true → (i : ℕ) → i < length bs → get_or bs i false ≡ true
+every_one : (bs : List Bool) → list_all (λ b. b) bs ≡ true → (i : ℕ) → i < length bs → get_or bs i false ≡ true
 every_one [] a i h = absurd (omega arith)
-every_one (b ∷ bs) a zero h = (and_parts b (all (λ b. b) bs) a).0
-every_one (b ∷ bs) a (suc i) h = every_one bs (and_parts b (all (λ b. b) bs) a).1 i (omega arith)
+every_one (b ∷ bs) a zero h = (and_parts b (list_all (λ b. b) bs) a).0
+every_one (b ∷ bs) a (suc i) h = every_one bs (and_parts b (list_all (λ b. b) bs) a).1 i (omega arith)
 
-all_ones : (bs : List Bool) → ((i : ℕ) → i < length bs → get_or bs i false ≡ true) → all (λ b. b) bs ≡ true
+all_ones : (bs : List Bool) → ((i : ℕ) → i < length bs → get_or bs i false ≡ true) → list_all (λ b. b) bs ≡ true
 all_ones [] f = refl
-all_ones (b ∷ bs) f = and_from b (all (λ b. b) bs) (f 0 (omega arith)) (all_ones bs (λ i h. f (suc i) (omega arith)))
+all_ones (b ∷ bs) f = and_from b (list_all (λ b. b) bs) (f 0 (omega arith)) (all_ones bs (λ i h. f (suc i) (omega arith)))
 
-some_one : (bs : List Bool) → any (λ b. b) bs ≡ true → (i : ℕ) × (i < length bs) × (get_or bs i false ≡ true)
+some_one : (bs : List Bool) → list_any (λ b. b) bs ≡ true → (i : ℕ) × (i < length bs) × (get_or bs i false ≡ true)
 some_one [] a = absurd (both_ways false refl a)
-some_one (b ∷ bs) a = ⊎_elim (λ h. (0, omega arith, h)) (λ h. let r = some_one bs h in (suc r.0, omega (arith, r.1), r.2)) (or_cases b (any (λ b. b) bs) a)
+some_one (b ∷ bs) a = ⊎_elim (λ h. (0, omega arith, h)) (λ h. let r = some_one bs h in (suc r.0, omega (arith, r.1), r.2)) (or_cases b (list_any (λ b. b) bs) a)
 
-any_one : (bs : List Bool) (i : ℕ) → i < length bs → get_or bs i false ≡ true → any (λ b. b) bs ≡ true
+any_one : (bs : List Bool) (i : ℕ) → i < length bs → get_or bs i false ≡ true → list_any (λ b. b) bs ≡ true
 any_one [] i h e = absurd (omega arith)
-any_one (b ∷ bs) zero h e = or_left b (any (λ b. b) bs) e
-any_one (b ∷ bs) (suc i) h e = or_right b (any (λ b. b) bs) (any_one bs i (omega arith) e)
+any_one (b ∷ bs) zero h e = or_left b (list_any (λ b. b) bs) e
+any_one (b ∷ bs) (suc i) h e = or_right b (list_any (λ b. b) bs) (any_one bs i (omega arith) e)
 
 -- whether the ones are odd in number is the lowest bit of their number
 odd_ones : (bs : List Bool) → cond (odd bs) 1 0 ≡ ones bs % 2

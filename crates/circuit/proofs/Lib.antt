@@ -1,4 +1,3 @@
-pub mod Few
 pub mod Tested
 pub mod Wiring
 pub mod KindsAsNamed

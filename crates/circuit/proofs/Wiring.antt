@@ -1,12 +1,11 @@
 -- Circuits stay wired in order as they grow.
-use Rattle.std.proofs.Common.{◌≡◌, ℕ, suc, ◌+◌, ◌<◌, ◌≤◌, true, false, ltb, leb, List, [], ◌∷◌, ◌++◌, length, sym, refl, subst, add-zero, arith}
-use Rattle.std.proofs.lemmas.Bool.{and_parts, and_from, and_left, and_right, leb-true, le-leb, lt-ltb, le-ltb}
+use Rattle.std.proofs.Common.{◌≡◌, ℕ, suc, ◌+◌, ◌≤◌, true, leb, List, [], ◌∷◌, ◌++◌, length, refl, subst, add-zero, arith}
+use Rattle.std.proofs.lemmas.Bool.{and_parts, and_from, leb-true, le-leb}
 use Rattle.circuit.specs.declared.gate.Signal.{Signal}
 use Rattle.circuit.specs.declared.gate.Signal.TheVariants as signal
 use Rattle.circuit.specs.Kinds.{takes}
-use Rattle.circuit.specs.Lists.{all}
-use Rattle.circuit.specs.Circuits.{Gate, Circuit, there, fits, wired}
-use Rattle.circuit.specs.Held.{admits_gate, admits_output}
+use Rattle.std.specs.List.{list_all}
+use Rattle.circuit.specs.Circuits.{Gate, there, fits, wired}
 use Rattle.circuit.proofs.Tested.{all_weaker}
 
 leb_more : (a b c : ℕ) → b ≤ c → leb a b ≡ true → leb a c ≡ true
@@ -16,16 +15,16 @@ pub there_more : (I J m n : ℕ) (s : Signal) → I ≤ J → m ≤ n → there 
 there_more I J m n (signal.Input i) h k e = let p = and_parts (leb 1 i) (leb i I) e in and_from (leb 1 i) (leb i J) p.0 (leb_more i I J h p.1)
 there_more I J m n (signal.Gate g) h k e = let p = and_parts (leb 1 g) (leb g m) e in and_from (leb 1 g) (leb g n) p.0 (leb_more g m n k p.1)
 
-pub all_there_more : (I J m n : ℕ) (ss : List Signal) → I ≤ J → m ≤ n → all (there I m) ss ≡ true → all (there J n) ss ≡ true
+pub all_there_more : (I J m n : ℕ) (ss : List Signal) → I ≤ J → m ≤ n → list_all (there I m) ss ≡ true → list_all (there J n) ss ≡ true
 all_there_more I J m n ss h k a = all_weaker (there I m) (there J n) ss (λ s. there_more I J m n s h k) a
 
 pub wired_more : (I J m : ℕ) (gs : List Gate) → I ≤ J → wired I m gs ≡ true → wired J m gs ≡ true
 wired_more I J m [] h w = refl
 wired_more I J m (g ∷ gs) h w =
     let p = and_parts (fits I m g) (wired I (suc m) gs) w in
-    let q = and_parts (takes g.kind (length g.operands)) (all (there I m) g.operands) p.0 in
+    let q = and_parts (takes g.kind (length g.operands)) (list_all (there I m) g.operands) p.0 in
     and_from (fits J m g) (wired J (suc m) gs)
-    (and_from (takes g.kind (length g.operands)) (all (there J m) g.operands) q.0 (all_there_more I J m m g.operands h (omega arith) q.1))
+    (and_from (takes g.kind (length g.operands)) (list_all (there J m) g.operands) q.0 (all_there_more I J m m g.operands h (omega arith) q.1))
     (wired_more I J (suc m) gs h p.1)
 
 pub wired_push : (I m : ℕ) (gs : List Gate) (g : Gate) → wired I m gs ≡ true → fits I (m + length gs) g ≡ true → wired I m (gs ++ g ∷ []) ≡ true
@@ -34,22 +33,3 @@ wired_push I m (x ∷ gs) g w f =
     let p = and_parts (fits I m x) (wired I (suc m) gs) w in
     let q : m + suc (length gs) ≡ suc m + length gs = omega arith in
     and_from (fits I m x) (wired I (suc m) (gs ++ g ∷ [])) p.0 (wired_push I (suc m) gs g p.1 (subst (λ k. fits I k g ≡ true) q f))
-
--- ── whether one more may come, by the number n of those that are there ──
-pub gate_full : (c : Circuit) (g : Gate) (n : ℕ) → n ≡ length c.gates → 256 ≤ n → false ≡ admits_gate c g
-gate_full c g n e h = sym (and_left (ltb (length c.gates) 256) (fits c.inputs (length c.gates) g) (le-ltb (length c.gates) 256 (omega arith)))
-
-pub gate_unfit : (c : Circuit) (g : Gate) → false ≡ fits c.inputs (length c.gates) g → false ≡ admits_gate c g
-gate_unfit c g f = sym (and_right (ltb (length c.gates) 256) (fits c.inputs (length c.gates) g) (sym f))
-
-pub gate_admitted : (c : Circuit) (g : Gate) (n : ℕ) → n ≡ length c.gates → n < 256 → true ≡ fits c.inputs (length c.gates) g → true ≡ admits_gate c g
-gate_admitted c g n e h f = sym (and_from (ltb (length c.gates) 256) (fits c.inputs (length c.gates) g) (lt-ltb (length c.gates) 256 (omega arith)) (sym f))
-
-pub output_full : (c : Circuit) (s : Signal) (n : ℕ) → n ≡ length c.outputs → 64 ≤ n → false ≡ admits_output c s
-output_full c s n e h = sym (and_left (ltb (length c.outputs) 64) (there c.inputs (length c.gates) s) (le-ltb (length c.outputs) 64 (omega arith)))
-
-pub output_elsewhere : (c : Circuit) (s : Signal) → false ≡ there c.inputs (length c.gates) s → false ≡ admits_output c s
-output_elsewhere c s f = sym (and_right (ltb (length c.outputs) 64) (there c.inputs (length c.gates) s) (sym f))
-
-pub output_admitted : (c : Circuit) (s : Signal) (n : ℕ) → n ≡ length c.outputs → n < 64 → true ≡ there c.inputs (length c.gates) s → true ≡ admits_output c s
-output_admitted c s n e h f = sym (and_from (ltb (length c.outputs) 64) (there c.inputs (length c.gates) s) (lt-ltb (length c.outputs) 64 (omega arith)) (sym f))

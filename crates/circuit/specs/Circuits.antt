@@ -11,8 +11,8 @@ use Rattle.circuit.specs.declared.gate.Signal.{Signal}
 use Rattle.circuit.specs.declared.gate.Signal.TheVariants as signal
 use Rattle.circuit.specs.declared.gate.Gate.{Gate as HeldGate}
 use Rattle.circuit.specs.Kinds.{takes}
-use Rattle.circuit.specs.Lists.{all}
-use Rattle.circuit.specs.Listed.{listed}
+use Rattle.std.specs.List.{list_all}
+use Rattle.inline_list.specs.Listed.{listed}
 
 pub record Gate : Type 0 where
   pub kind : Kind
@@ -33,7 +33,7 @@ there I m (signal.Gate g) = nat_le 1 g && nat_le g m
 
 -- a gate that may come after m others: its kind takes so many operands, and each is there before it
 abbrev pub fits : ℕ → ℕ → Gate → Bool
-fits I m g = takes g.kind (length g.operands) && all (there I m) g.operands
+fits I m g = takes g.kind (length g.operands) && list_all (there I m) g.operands
 
 -- gates, each of which may come after m others and those before it
 abbrev pub wired : ℕ → ℕ → List Gate → Bool
@@ -54,7 +54,7 @@ pub record Sound (c : Circuit) : Type 0 where
   pub few_gates : length c.gates ≤ 256
   pub few_outputs : length c.outputs ≤ 64
   pub in_order : wired c.inputs 0 c.gates ≡ true
-  pub shown : all (there c.inputs (length c.gates)) c.outputs ≡ true
+  pub shown : list_all (there c.inputs (length c.gates)) c.outputs ≡ true
 
 abbrev pub gate_of : HeldGate → Gate
 gate_of g = record { kind = g.kind; operands = listed g.operands }

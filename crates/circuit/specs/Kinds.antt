@@ -4,7 +4,7 @@
 use Rattle.std.specs.Prelude.{ℕ, Bool, false, cond, not, ◌&&◌, List, [], ◌∷◌, ◌==◌, nat_le}
 use Rattle.circuit.specs.declared.kind.Kind.{Kind}
 use Rattle.circuit.specs.declared.kind.Kind.TheVariants.{And, Or, Nand, Nor, Xor, Xnor, Not}
-use Rattle.circuit.specs.Lists.{all, any}
+use Rattle.std.specs.List.{list_all, list_any}
 
 -- from 2 to 8
 abbrev pub several : ℕ → Bool
@@ -25,10 +25,10 @@ odd [] = false
 odd (b ∷ bs) = cond b (not (odd bs)) (odd bs)
 
 abbrev pub gives : Kind → List Bool → Bool
-gives And bs = all (λ b. b) bs
-gives Or bs = any (λ b. b) bs
-gives Nand bs = not (all (λ b. b) bs)
-gives Nor bs = not (any (λ b. b) bs)
+gives And bs = list_all (λ b. b) bs
+gives Or bs = list_any (λ b. b) bs
+gives Nand bs = not (list_all (λ b. b) bs)
+gives Nor bs = not (list_any (λ b. b) bs)
 gives Xor bs = odd bs
 gives Xnor bs = not (odd bs)
-gives Not bs = not (any (λ b. b) bs)
+gives Not bs = not (list_any (λ b. b) bs)

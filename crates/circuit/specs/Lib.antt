@@ -1,5 +1,3 @@
-pub mod Lists
-pub mod Listed
 pub mod Kinds
 pub mod KindLaws
 pub mod Circuits

@@ -4,7 +4,7 @@ ghost use Rattle.std.specs.Cmp.{decided, partial_equiv_from_equiv};
 ghost use Rattle.circuit.specs.SignalEq.{signal_eq, signal_eq_decides};
 
 use crate::kind::Kind;
-use crate::operands::Operands;
+use inline_list::InlineList;
 
 // An input or a gate's output, by its number. Inputs and gates are numbered from 1, each in the order of their lines.
 #[derive(Clone, Copy, Debug)]
@@ -13,7 +13,7 @@ pub enum Signal {
     Gate(usize),
 }
 
-// Written out, so that `==` says when two signals are the same.
+// Kept: an edit that must fail turns a comparison of this body, and a derive has none.
 impl PartialEq for Signal {
     ghost eq = { signal_eq };
 
@@ -30,6 +30,9 @@ impl PartialEq for Signal {
         }
     }
 }
+
+// A gate's operands, as signals or still as names. No kind takes more than eight.
+pub type Operands<T> = InlineList<T, 8>;
 
 #[derive(Clone, Copy)]
 pub struct Gate {

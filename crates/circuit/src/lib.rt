@@ -3,14 +3,11 @@
 
 mod build;
 mod circuit;
-mod collect;
 mod gate;
 mod kind;
 mod laws;
-mod operands;
 
-pub use circuit::Circuit;
-pub use gate::{Gate, Signal};
+pub use circuit::{Circuit, CircuitFault};
+pub use gate::{Gate, Operands, Signal};
 pub use kind::Kind;
 pub use laws::kinds_compute_as_named;
-pub use operands::Operands;

@@ -2,10 +2,11 @@
 #![tactic(auto)]
 
 mod ascending;
-mod gate_set;
 mod laws;
-mod sets;
 
 pub use ascending::ascends;
-pub use gate_set::GateSet;
+use inline_list::InlineList;
 pub use laws::ascending_numbers_are_sets;
+
+// A set of gates, at most six, by their numbers.
+pub type GateSet = InlineList<usize, 6>;

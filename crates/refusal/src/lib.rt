@@ -11,6 +11,22 @@ pub struct Refusal {
     pub column: usize,
 }
 
+impl Refusal {
+    ghost use Rattle.std.specs.Prelude.{◌≡◌};
+    ghost use Rattle.refusal.specs.Asking.{numbered};
+
+    // By a question that has no place in a text.
+    pub fn numbered(number: usize) -> Refusal
+        ensures { result ≡ numbered number }
+    {
+        Refusal {
+            number,
+            line: 0,
+            column: 0,
+        }
+    }
+}
+
 // As the programs print it: `! number line column`.
 impl fmt::Display for Refusal {
     ghost use Rattle.std.specs.Prelude.{Some};

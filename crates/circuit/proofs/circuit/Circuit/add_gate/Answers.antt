@@ -1,19 +1,8 @@
-use Rattle.std.proofs.Common.{◌≡◌, ◌+◌, ◌≤◌, true, List, [], ◌∷◌, ◌++◌, map, length, vec_items, vec_len, sym, refl, ap, ◌∙◌, subst, zero-add, arith}
-use Rattle.std.proofs.lemmas.List.{length-map, map_push}
+use Rattle.std.proofs.Common.{◌≡◌, ◌+◌, ◌≤◌, true, List, ◌∷◌, [], ◌++◌, map, vec_items, vec_len, sym, ap, ◌∙◌, subst, zero-add, length, arith}
+use Rattle.std.proofs.lemmas.List.{map_push}
 use Rattle.circuit.specs.Circuits.{Gate, gate_of, fits, wired}
-use Rattle.circuit.specs.Held.{circuit_of}
-use Rattle.circuit.proofs.Wiring.{wired_push, all_there_more, gate_full, gate_unfit, gate_admitted}
+use Rattle.circuit.proofs.Wiring.{wired_push, all_there_more}
 use Rattle.circuit.proofs.circuit.Circuit.add_gate.Goals as goal
-use Rattle.circuit.proofs.circuit.Circuit.add_gate.Goals.{then-len-ge-GATES-via-then-len-ge-GATES, then-len-ge-GATES-via-else-len-ge-GATES+then-not-fits}
-
-pub returns-then-len-ge-GATES : goal.returns-then-len-ge-GATES
-returns-then-len-ge-GATES c =
-    let s = c.args.self.now in
-    let many : c.len.result ≡ length (circuit_of s).gates = c.len.ensures ∙ s.gates.ok.0 ∙ sym (length-map (vec_items s.gates) gate_of) in
-    elim c.then-len-ge-GATES.branch [
-      | then-len-ge-GATES-via-then-len-ge-GATES w ↦ record { taken = gate_full (circuit_of s) (gate_of c.args.gate) c.len.result many w.if-len-ge-GATES.true; after = refl }
-      | then-len-ge-GATES-via-else-len-ge-GATES+then-not-fits w ↦ record { taken = gate_unfit (circuit_of s) (gate_of c.args.gate) w.if-not-fits.ensures; after = refl }
-    ]
 
 pub invariant_of-self : goal.invariant_of-self
 invariant_of-self c =
@@ -28,20 +17,10 @@ invariant_of-self c =
     let same : s.inputs ≤ s.inputs = omega arith in
     record {
       few_inputs = s.few_inputs;
-      few_gates = omega (arith, c.len.ensures, c.if-len-ge-GATES.false);
+      few_gates = omega (arith, c.len.ensures, c.if-len-ge-MOST_GATES.false);
       few_outputs = s.few_outputs;
       in_order = subst (λ (l : List Gate). wired s.inputs 0 l ≡ true) (sym pushed) (wired_push s.inputs 0 gs g s.in_order fit);
       shown = all_there_more s.inputs s.inputs (vec_len s.gates) (vec_len v) (vec_items s.outputs) same more s.shown;
       gate_room = omega (arith, c.push_reserved.ensures.capacity);
       output_room = s.output_room;
-    }
-
-pub returns : goal.returns
-returns c =
-    let s = c.args.self.now in
-    let many : c.len.result ≡ length (circuit_of s).gates = c.len.ensures ∙ s.gates.ok.0 ∙ sym (length-map (vec_items s.gates) gate_of) in
-    let pushed = ap (map gate_of) c.push_reserved.ensures.items ∙ map_push gate_of (vec_items s.gates) c.args.gate in
-    record {
-      taken = gate_admitted (circuit_of s) (gate_of c.args.gate) c.len.result many c.if-len-ge-GATES.false c.if-not-fits.ensures;
-      after = ap (λ (l : List Gate). record { inputs = s.inputs; gates = l; outputs = vec_items s.outputs }) pushed;
     }
