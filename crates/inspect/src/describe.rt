@@ -2,25 +2,30 @@
 use circuit::{Circuit, Kind};
 use std::io;
 
+const KINDS: [(&str, Kind); 7] = [
+    ("AND", Kind::And),
+    ("OR", Kind::Or),
+    ("NAND", Kind::Nand),
+    ("NOR", Kind::Nor),
+    ("XOR", Kind::Xor),
+    ("XNOR", Kind::Xnor),
+    ("NOT", Kind::Not),
+];
+
 fn count(circuit: &Circuit, kind: Kind) -> usize {
-    let mut n: usize = 0;
-    for gate in circuit.gates() {
-        if gate.kind == kind {
-            n = n.saturating_add(1);
-        }
-    }
-    n
+    circuit
+        .gates()
+        .iter()
+        .filter(|gate| gate.kind == kind)
+        .count()
 }
 
 pub fn describe(rt: &HostRuntime, circuit: &Circuit) -> io::Result<()> {
     println!(rt; "inputs {}", circuit.inputs())?;
     println!(rt; "outputs {}", circuit.outputs().len())?;
     println!(rt; "gates {}", circuit.gates().len())?;
-    println!(rt; "AND {}", count(circuit, Kind::And))?;
-    println!(rt; "OR {}", count(circuit, Kind::Or))?;
-    println!(rt; "NAND {}", count(circuit, Kind::Nand))?;
-    println!(rt; "NOR {}", count(circuit, Kind::Nor))?;
-    println!(rt; "XOR {}", count(circuit, Kind::Xor))?;
-    println!(rt; "XNOR {}", count(circuit, Kind::Xnor))?;
-    println!(rt; "NOT {}", count(circuit, Kind::Not))
+    for (word, kind) in &KINDS {
+        println!(rt; "{word} {}", count(circuit, *kind))?;
+    }
+    Ok(())
 }

@@ -19,6 +19,7 @@ pub fn record_all(circuit: &Circuit, tests: &mut TestTable, log: &[u8]) -> Resul
     ensures after { tests_of tests.new
         ≡ held_after (circuit_of circuit.now) (tests_of tests.old) (pieces (circuit_of circuit.now) log.now) }
 {
+    // Kept: a loop, since where a record ends is only known once the log is cut there.
     let mut rest = log;
     while !rest.is_empty() {
         let (piece, after) = cut(circuit, rest);
@@ -29,6 +30,7 @@ pub fn record_all(circuit: &Circuit, tests: &mut TestTable, log: &[u8]) -> Resul
 }
 
 // A measured value as a digit, and a dash for an output that was not measured.
+// Kept: the three cases line by line; `map_or` would have a branch for two of them in its closure.
 fn digit(reading: Option<bool>) -> char {
     match reading {
         Some(true) => '1',

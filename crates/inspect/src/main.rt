@@ -9,6 +9,7 @@ use describe::describe;
 use log::{describe_tests, record_all};
 use missed::describe_missed;
 use netlist::{Netlist, ReadFault};
+use refusal::Refusal;
 use std::io::ErrorKind;
 use std::{fs, io};
 use testlog::{RecordFault, TestTable};
@@ -16,26 +17,18 @@ use testlog::{RecordFault, TestTable};
 // The bytes of a file; those of a missing one are none.
 fn read_or_none(rt: &HostRuntime, path: &str) -> io::Result<Vec<u8>> {
     match fs::read(rt, path) {
-        Ok(bytes) => Ok(bytes),
-        Err(e) => {
-            if e.kind() == ErrorKind::NotFound {
-                Ok(Vec::new(rt.alloc()))
-            } else {
-                Err(e)
-            }
-        }
+        Err(e) if e.kind() == ErrorKind::NotFound => Ok(Vec::new(rt.alloc())),
+        read => read,
     }
 }
 
 fn refuse_netlist(rt: &HostRuntime, fault: ReadFault) -> io::Result<()> {
-    let refusal = fault.refusal();
-    println!(rt; "{refusal}")?;
+    println!(rt; "{}", Refusal::from(fault))?;
     println!(rt; "{fault}")
 }
 
 fn refuse_record(rt: &HostRuntime, number: usize, fault: RecordFault) -> io::Result<()> {
-    let refusal = fault.refusal();
-    println!(rt; "{refusal}")?;
+    println!(rt; "{}", fault.refusal())?;
     println!(rt; "record {number}: {fault}")
 }
 

@@ -8,11 +8,7 @@ use testlog::{Test, TestTable};
 
 // A known bit as it was measured.
 fn agrees(bit: u8, reading: Option<bool>) -> bool {
-    match reading {
-        Some(true) => bit == 1,
-        Some(false) => bit == 0,
-        None => true,
-    }
+    reading.is_none_or(|measured| bit == u8::from(measured))
 }
 
 fn print_name(rt: &HostRuntime, netlist: &Netlist, signal: Signal) -> io::Result<()> {
@@ -20,12 +16,10 @@ fn print_name(rt: &HostRuntime, netlist: &Netlist, signal: Signal) -> io::Result
         Signal::Input(i) => netlist.input_name(i),
         Signal::Gate(g) => netlist.gate_name(g),
     };
-    if let Some(bytes) = name {
-        if let Ok(text) = std::str::from_utf8(bytes) {
-            print!(rt; " {text}")?;
-        }
+    match name.map(|bytes| std::str::from_utf8(bytes)) {
+        Some(Ok(text)) => print!(rt; " {text}"),
+        _ => Ok(()),
     }
-    Ok(())
 }
 
 // The outputs at which a test measured something else than the netlist gives.
@@ -36,6 +30,7 @@ fn describe_misses(
     number: usize,
     test: &Test,
 ) -> io::Result<()> {
+    // Kept: `settled` writes into bytes that are lent to it, one for each output, where 2 is a value that is not known.
     let mut bits = [2u8; 64];
     let _ = settled(circuit, test.inputs(), &[], &mut bits);
     print!(rt; "missed {number} at")?;

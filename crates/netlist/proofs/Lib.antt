@@ -1,5 +1,5 @@
-pub mod Found
 pub mod Admitted
 pub mod Lined
+pub mod Found
 pub mod Shown
 pub mod LineByLine

@@ -8,7 +8,8 @@ use Rattle.circuit.specs.Kinds.{takes}
 use Rattle.netlist_text.specs.Words.{lexemes, stray, skipped}
 use Rattle.netlist_text.specs.Statements.{Name, Statement, input, output, gate, statement}
 use Rattle.netlist_text.specs.Netlists.{Draft, signals}
-use Rattle.netlist_text.specs.Meaning.{ask, new, input_added, output_added, gate_added, connected, admitted, refusal, on_line, formed, clean, read_line}
+use Rattle.refusal.specs.Asking.{ask}
+use Rattle.netlist_text.specs.Meaning.{new, input_added, output_added, gate_added, connected, admitted, refusal, on_line, formed, clean, read_line}
 use Rattle.scanner.specs.Parsed.{crowded}
 use Rattle.netlist.specs.declared.fault.LineFault.{LineFault}
 use Rattle.netlist.specs.declared.fault.LineFault.TheVariants as fault

@@ -47,7 +47,3 @@ told_on line (Err f) d = Err (refusal (number f) line (column_of f))
 abbrev pub answered : {X D : Type 0} → Result X ReadFault → D → Result D Refusal
 answered (Ok x) d = Ok d
 answered (Err f) d = Err (refusal_of f)
-
-abbrev pub numbered : {X : Type 0} → ℕ → Result X LineFault → Result X (ℕ × LineFault)
-numbered line (Ok x) = Ok x
-numbered line (Err f) = Err (line, f)

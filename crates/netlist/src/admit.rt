@@ -12,8 +12,6 @@ use crate::tables::{OutputLine, Tables};
 use circuit::{Gate, Kind, Operands};
 use scanner::Name;
 
-const OUTPUTS: usize = 64;
-
 impl Tables {
     pub(crate) fn admit_input(&mut self, name: Name) -> Result<(), LineFault>
         ensures { told result (draft_of self.new) ≡ admitted (draft_of self.old) 0 (input (name_of name)) }
@@ -21,9 +19,7 @@ impl Tables {
         if self.signal(name.as_bytes()).is_some() {
             return Err(LineFault::Redefined);
         }
-        if !self.circuit.add_input() {
-            return Err(LineFault::Full);
-        }
+        self.circuit.add_input()?;
         self.input_names.push_reserved(name);
         Ok(())
     }
@@ -31,10 +27,7 @@ impl Tables {
     pub(crate) fn admit_output(&mut self, line: usize, name: Name) -> Result<(), LineFault>
         ensures { told result (draft_of self.new) ≡ admitted (draft_of self.old) line (output (name_of name)) }
     {
-        if self.output_lines.len() >= OUTPUTS {
-            return Err(LineFault::Full);
-        }
-        self.output_lines.push_reserved(OutputLine { name, line });
+        self.output_lines.push(OutputLine { name, line })?;
         Ok(())
     }
 
@@ -46,18 +39,16 @@ impl Tables {
     ) -> Result<(), LineFault>
         ensures { told result (draft_of self.new) ≡ admitted (draft_of self.old) 0 (gate (name_of name) kind (names_of operands.now)) }
     {
-        if !kind.takes(operands.as_slice().len()) {
+        if !kind.takes(operands.len()) {
             return Err(LineFault::OperandCount);
         }
         if self.signal(name.as_bytes()).is_some() {
             return Err(LineFault::Redefined);
         }
-        let Some(operands) = self.signals(operands) else {
-            return Err(LineFault::Undefined);
-        };
-        if !self.circuit.add_gate(Gate { kind, operands }) {
-            return Err(LineFault::Full);
-        }
+        let operands = self.signals(operands).ok_or(LineFault::Undefined)?;
+        self.circuit
+            .add_gate(Gate { kind, operands })
+            .map_err(|_| LineFault::Full)?;
         self.gate_names.push_reserved(name);
         Ok(())
     }

@@ -1,52 +1,63 @@
 // Why a netlist text is refused.
 ghost use Rattle.std.specs.Prelude.{◌≡◌};
-ghost use Rattle.netlist.specs.declared.fault.LineFault.TheVariants.{Byte};
-ghost use Rattle.netlist.specs.declared.fault.ReadFault.TheVariants.{Line};
+ghost use Rattle.netlist.specs.declared.fault.LineFault.TheVariants as line_fault;
+ghost use Rattle.netlist.specs.declared.fault.ReadFault.TheVariants as read_fault;
 
+use inline_list::Full;
 use scanner::ScanFault;
+use thiserror::Error;
 
 // What is wrong on a line.
-#[derive(Clone, Copy, Debug)]
+#[derive(Clone, Copy, Debug, Error)]
 pub enum LineFault {
-    // a byte that may not stand in a line
+    #[error("this byte may not stand in a line: letters, digits, _ and space may, and ( ) , =")]
     Byte(ScanFault),
-    // none of the three forms
+    #[error("a line is INPUT(name), OUTPUT(name) or name = KIND(name, ...), with names of at most 16 bytes")]
     Form,
-    // more or fewer operands than the kind takes
+    #[error("this kind of gate does not take so many operands")]
     OperandCount,
-    // a signal that is defined already
+    #[error("a signal of this name is defined already")]
     Redefined,
-    // an operand that no earlier line defines
+    #[error("an operand is not defined on an earlier line")]
     Undefined,
-    // more inputs, outputs or gates than there may be
+    #[error("there are at most 64 inputs, 64 outputs and 256 gates")]
     Full,
 }
 
-// What is wrong with a text.
-#[derive(Clone, Copy, Debug)]
+// What is wrong with a text. A line is told by its number.
+#[derive(Clone, Copy, Debug, Error)]
 pub enum ReadFault {
-    // a netlist is in already
+    #[error("a netlist is loaded already")]
     Loaded,
-    // more than 60,000 bytes
+    #[error("a netlist has at most 60000 bytes")]
     Long,
-    // a fault on the line of this number
+    #[error("{1}")]
     Line(usize, LineFault),
-    // no input, no output or no gate
+    #[error("a netlist has at least one input, one output and one gate")]
     Lacking,
-    // the OUTPUT of this line names no signal, or one that is an output already
+    #[error("an OUTPUT names a signal of the netlist, and each at most once")]
     Output(usize),
 }
 
 impl From<ScanFault> for LineFault {
-    ghost from_gives = { λ e r. r ≡ Byte e };
+    ghost from_gives = { λ e r. r ≡ line_fault.Byte e };
 
     fn from(fault: ScanFault) -> LineFault {
         LineFault::Byte(fault)
     }
 }
 
+impl From<Full> for LineFault {
+    ghost from_gives = { λ e r. r ≡ line_fault.Full };
+
+    fn from(_full: Full) -> LineFault {
+        LineFault::Full
+    }
+}
+
+// On the line of this number.
 impl From<(usize, LineFault)> for ReadFault {
-    ghost from_gives = { λ e r. r ≡ Line e.0 e.1 };
+    ghost from_gives = { λ e r. r ≡ read_fault.Line e.0 e.1 };
 
     fn from(fault: (usize, LineFault)) -> ReadFault {
         ReadFault::Line(fault.0, fault.1)

@@ -16,10 +16,7 @@ impl Tables {
         if line.is_empty() || line[0] == b'#' {
             return Ok(());
         }
-        let Some(statement) = parse(line)? else {
-            return Err(LineFault::Form);
-        };
-        match statement {
+        match parse(line)?.ok_or(LineFault::Form)? {
             Statement::Input(name) => self.admit_input(name),
             Statement::Output(name) => self.admit_output(number, name),
             Statement::Gate {

@@ -3,31 +3,15 @@ ghost use Rattle.std.specs.Prelude.{◌≡◌, IfOk};
 ghost use Rattle.netlist_text.specs.Netlists.{blank};
 ghost use Rattle.netlist_text.specs.Meaning.{meaning};
 ghost use Rattle.netlist.specs.Drafts.{draft_of};
-ghost use Rattle.netlist.specs.Faults.{answered, numbered};
+ghost use Rattle.netlist.specs.Faults.{answered};
 
-use crate::fault::{LineFault, ReadFault};
-use crate::tables::Tables;
+use crate::fault::ReadFault;
+use crate::tables::{OutputLine, Tables};
 use circuit::Circuit;
-use scanner::line_len;
+use inline_list::InlineList;
 use std::alloc::{AllocError, Global};
 
-const INPUTS: usize = 64;
-
-const GATES: usize = 256;
-
-const OUTPUTS: usize = 64;
-
 const TEXT_BYTES: usize = 60_000;
-
-// The same answer, with the number of the line that it is about.
-fn on_line(number: usize, answer: Result<(), LineFault>) -> Result<(), (usize, LineFault)>
-    ensures { result ≡ numbered number answer }
-{
-    match answer {
-        Ok(()) => Ok(()),
-        Err(fault) => Err((number, fault)),
-    }
-}
 
 impl Tables {
     // Empty tables, with room for all that a text may define.
@@ -35,14 +19,13 @@ impl Tables {
         ensures { IfOk result (λ t. draft_of t ≡ blank) }
     {
         let circuit = Circuit::new(heap)?;
-        let input_names = Vec::with_capacity(heap, INPUTS)?;
-        let gate_names = Vec::with_capacity(heap, GATES)?;
-        let output_lines = Vec::with_capacity(heap, OUTPUTS)?;
+        let input_names = Vec::with_capacity(heap, Circuit::MOST_INPUTS)?;
+        let gate_names = Vec::with_capacity(heap, Circuit::MOST_GATES)?;
         Ok(Tables {
             circuit,
             input_names,
             gate_names,
-            output_lines,
+            output_lines: InlineList::none(OutputLine::none()),
         })
     }
 
@@ -63,18 +46,10 @@ impl Tables {
         if text.len() > TEXT_BYTES {
             return Err(ReadFault::Long);
         }
-        let mut rest = text;
-        let mut number = 1;
-        while !rest.is_empty() {
-            let n = line_len(rest);
-            let line = &rest[0..n];
-            on_line(number, self.read_line(number, line))?;
-            rest = if n < rest.len() {
-                &rest[n + 1..]
-            } else {
-                &rest[n..]
-            };
-            number += 1;
+        for (i, line) in text.split(|b| *b == b'\n').enumerate() {
+            let number = i + 1;
+            self.read_line(number, line)
+                .map_err(|fault| (number, fault))?;
         }
         self.finish()
     }

@@ -21,16 +21,14 @@ impl Tables {
     // Adds the output that a line names.
     fn show(&mut self, output: OutputLine) -> Result<(), ReadFault>
         requires { length (draft_of self.old).netlist.circuit.outputs < 64 }
-        ensures value { answered result (draft_of self.new).netlist ≡ shown (draft_of self.old).netlist output.line (signal (draft_of self.old).netlist (name_of output.name)) }
-        ensures lines { self.new.output_lines ≡ self.old.output_lines }
+        ensures { answered result (draft_of self.new).netlist ≡ shown (draft_of self.old).netlist output.line (signal (draft_of self.old).netlist (name_of output.name)) }
     {
-        let Some(signal) = self.signal(output.name.as_bytes()) else {
-            return Err(ReadFault::Output(output.line));
-        };
-        if self.is_shown(signal) || !self.circuit.add_output(signal) {
-            return Err(ReadFault::Output(output.line));
+        let fault = ReadFault::Output(output.line);
+        let signal = self.signal(output.name.as_bytes()).ok_or(fault)?;
+        if self.is_shown(signal) {
+            return Err(fault);
         }
-        Ok(())
+        self.circuit.add_output(signal).map_err(|_| fault)
     }
 
     // Adds the outputs of the OUTPUT lines, in order.
@@ -38,9 +36,10 @@ impl Tables {
         requires { (draft_of self.old).netlist.circuit.outputs ≡ [] }
         ensures { answered result (draft_of self.new).netlist ≡ with_outputs (draft_of self.old).netlist (draft_of self.old).outputs }
     {
-        for i in 0..self.output_lines.len() {
-            let output = self.output_lines[i];
-            self.show(output)?;
+        let lines = self.output_lines;
+        let lines = lines.as_slice();
+        for output in lines {
+            self.show(*output)?;
         }
         Ok(())
     }
@@ -49,13 +48,9 @@ impl Tables {
     fn lacks(&self) -> bool
         ensures { result ≡ lacking (draft_of self.now) }
     {
-        if self.circuit.inputs() == 0 {
-            return true;
-        }
-        if self.output_lines.is_empty() {
-            return true;
-        }
-        self.circuit.gates().is_empty()
+        self.circuit.inputs() == 0
+            || self.output_lines.as_slice().is_empty()
+            || self.circuit.gates().is_empty()
     }
 
     // What is asked when every line is read.

@@ -6,16 +6,13 @@ use std::alloc::{AllocError, Global};
 fn sized(heap: Global, inputs: usize, gates: usize, outputs: usize) -> Result<String, AllocError> {
     let mut text = String::new(heap);
     for i in 0..inputs {
-        let line = format!(in heap; "INPUT(i{i})\n")?;
-        text.push_str(line.as_str())?;
+        text.push_str(format!(in heap; "INPUT(i{i})\n")?.as_str())?;
     }
     for g in 0..gates {
-        let line = format!(in heap; "g{g} = NAND(i0, i0)\n")?;
-        text.push_str(line.as_str())?;
+        text.push_str(format!(in heap; "g{g} = NAND(i0, i0)\n")?.as_str())?;
     }
     for o in 0..outputs {
-        let line = format!(in heap; "OUTPUT(g{o})\n")?;
-        text.push_str(line.as_str())?;
+        text.push_str(format!(in heap; "OUTPUT(g{o})\n")?.as_str())?;
     }
     Ok(text)
 }

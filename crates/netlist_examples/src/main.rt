@@ -4,19 +4,14 @@
 use anyhow::anyhow;
 use large::{at_limits, long_text};
 use netlist::Netlist;
-use table::{bad_bytes, bad_forms, bad_signals, bad_wholes, good};
+use refusal::Refusal;
+use table::{BAD_BYTES, BAD_FORMS, BAD_SIGNALS, BAD_WHOLES, Example, GOOD, WRONG};
 
 mod large;
 mod table;
 
-// Loads a text into a new netlist and prints the answer.
-fn show(rt: &HostRuntime, label: &str, text: &[u8]) -> anyhow::Result<()> {
-    let mut netlist = Netlist::new(rt.alloc())?;
-    if let Err(fault) = netlist.load(text) {
-        let refusal = fault.refusal();
-        println!(rt; "{label}: {refusal}")?;
-        return Ok(());
-    }
+// Prints the numbers of inputs, outputs and gates of what is in.
+fn print_counts(rt: &HostRuntime, label: &str, netlist: &Netlist) -> anyhow::Result<()> {
     if let Some(circuit) = netlist.circuit() {
         println!(rt;
             "{label}: {} {} {}",
@@ -24,6 +19,22 @@ fn show(rt: &HostRuntime, label: &str, text: &[u8]) -> anyhow::Result<()> {
             circuit.outputs().len(),
             circuit.gates().len()
         )?;
+    }
+    Ok(())
+}
+
+// Loads a text into a new netlist and prints the answer.
+fn show(rt: &HostRuntime, label: &str, text: &[u8]) -> anyhow::Result<()> {
+    let mut netlist = Netlist::new(rt.alloc())?;
+    if let Err(fault) = netlist.load(text) {
+        println!(rt; "{label}: {}", Refusal::from(fault))?;
+    }
+    print_counts(rt, label, &netlist)
+}
+
+fn show_each(rt: &HostRuntime, examples: &[Example]) -> anyhow::Result<()> {
+    for (label, text) in examples {
+        show(rt, label, text)?;
     }
     Ok(())
 }
@@ -37,50 +48,28 @@ fn tell(rt: &HostRuntime, text: &[u8]) -> anyhow::Result<()> {
     Ok(())
 }
 
-fn sentences(rt: &HostRuntime) -> anyhow::Result<()> {
-    tell(rt, b"\x00")?;
-    tell(rt, b" ")?;
-    tell(rt, b"a = NOT(a, a)")?;
-    tell(rt, b"INPUT(a)\nINPUT(a)")?;
-    tell(rt, b"a = NOT(a)")?;
-    tell(rt, b"")?;
-    tell(rt, b"INPUT(a)\nOUTPUT(x)\ny = NOT(a)")
-}
-
 // A second load is not due, and leaves what is in.
 fn twice(rt: &HostRuntime) -> anyhow::Result<()> {
     let mut netlist = Netlist::new(rt.alloc())?;
     let text = b"INPUT(a)\nOUTPUT(y)\ny = NOT(a)\n";
-    if netlist.load(text).is_err() {
-        return Err(anyhow!("the first load"));
-    }
+    netlist.load(text).map_err(|_| anyhow!("the first load"))?;
     if let Err(fault) = netlist.load(b"") {
-        let refusal = fault.refusal();
-        println!(rt; "second load: {refusal}: {fault}")?;
+        println!(rt; "second load: {}: {fault}", Refusal::from(fault))?;
     }
-    if let Some(circuit) = netlist.circuit() {
-        println!(rt;
-            "still in: {} {} {}",
-            circuit.inputs(),
-            circuit.outputs().len(),
-            circuit.gates().len()
-        )?;
-    }
-    Ok(())
-}
-
-fn run(rt: &HostRuntime) -> anyhow::Result<()> {
-    good(rt)?;
-    bad_bytes(rt)?;
-    bad_forms(rt)?;
-    bad_signals(rt)?;
-    bad_wholes(rt)?;
-    at_limits(rt)?;
-    long_text(rt)?;
-    twice(rt)?;
-    sentences(rt)
+    print_counts(rt, "still in", &netlist)
 }
 
 fn main(rt: HostRuntime) -> anyhow::Result<()> {
-    run(&rt)
+    show_each(&rt, &GOOD)?;
+    show_each(&rt, &BAD_BYTES)?;
+    show_each(&rt, &BAD_FORMS)?;
+    show_each(&rt, &BAD_SIGNALS)?;
+    show_each(&rt, &BAD_WHOLES)?;
+    at_limits(&rt)?;
+    long_text(&rt)?;
+    twice(&rt)?;
+    for text in &WRONG {
+        tell(&rt, text)?;
+    }
+    Ok(())
 }

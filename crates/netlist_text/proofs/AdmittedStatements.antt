@@ -6,12 +6,13 @@ use Rattle.std.proofs.Common.{◌≡◌, ℕ, suc, ◌+◌, ◌<◌, ◌≤◌, 
 use Rattle.std.proofs.lemmas.List.{append-nil, append_assoc, length-append, length-map, length_push, get_or_at}
 use Rattle.std.proofs.lemmas.Bool.{cond-true, and_parts, lt-ltb}
 use Rattle.circuit.specs.Kinds.{takes}
-use Rattle.circuit.specs.Lists.{all}
+use Rattle.std.specs.List.{list_all}
 use Rattle.circuit.specs.Circuits.{Gate, there, fits, wired}
 use Rattle.circuit.proofs.Wiring.{all_there_more}
 use Rattle.netlist_text.specs.Statements.{Name, Statement, input, gate}
 use Rattle.netlist_text.specs.Netlists.{Netlist, OutputLine, Draft, find, either, signal, signals}
-use Rattle.netlist_text.specs.Meaning.{input_added, gate_added, ask, new, connected, admitted, on_line, and_then, finished}
+use Rattle.refusal.specs.Asking.{ask}
+use Rattle.netlist_text.specs.Meaning.{input_added, gate_added, new, connected, admitted, on_line, and_then, finished}
 use Rattle.netlist_text.specs.Law.{Distinct, SoundNetlist}
 use Rattle.netlist_text.specs.Written.{name_of, gate_statements}
 use Rattle.netlist_text.proofs.WrittenLines.{admitted_all}
@@ -73,7 +74,7 @@ module _ (n : Netlist) (sound : SoundNetlist n) where
       let d = up_to n ws gs [] in
       let I = n.circuit.inputs in
       let names = map (name_of n) g.operands in
-      let p = and_parts (takes g.kind (length g.operands)) (all (there I (length gs)) g.operands) fit in
+      let p = and_parts (takes g.kind (length g.operands)) (list_all (there I (length gs)) g.operands) fit in
       let there-now = all_there_more I (length n.input_names) (length gs) (length ws) g.operands (omega (arith, sound.inputs_named)) (omega arith) p.1 in
       let begins : Begins d.netlist n = record { inputs = refl; later = w ∷ vs; gates = e } in
       asked 5 (takes g.kind (length names)) _ (ap (takes g.kind) (length-map g.operands (name_of n)) ∙ p.0)

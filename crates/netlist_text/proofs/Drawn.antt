@@ -6,14 +6,15 @@ use Rattle.refusal.specs.declared.Refusal.{Refusal}
 use Rattle.circuit.specs.declared.kind.Kind.{Kind}
 use Rattle.circuit.specs.declared.gate.Signal.{Signal}
 use Rattle.circuit.specs.Kinds.{takes}
-use Rattle.circuit.specs.Lists.{all}
+use Rattle.std.specs.List.{list_all}
 use Rattle.circuit.specs.Circuits.{Gate, there, fits, wired}
 use Rattle.circuit.proofs.Tested.{all_push}
 use Rattle.circuit.proofs.Wiring.{wired_more, wired_push}
 use Rattle.netlist_text.specs.Words.{lexemes, stray, skipped}
 use Rattle.netlist_text.specs.Statements.{Name, Statement, input, output, gate, statement}
 use Rattle.netlist_text.specs.Netlists.{Netlist, OutputLine, Draft, blank, same_name, find, either, signal, signals}
-use Rattle.netlist_text.specs.Meaning.{input_added, output_added, gate_added, ask, new, connected, admitted, on_line, formed, clean, read_line}
+use Rattle.refusal.specs.Asking.{ask}
+use Rattle.netlist_text.specs.Meaning.{input_added, output_added, gate_added, new, connected, admitted, on_line, formed, clean, read_line}
 use Rattle.netlist_text.specs.Law.{good_name, Distinct, Apart}
 use Rattle.netlist_text.proofs.Signals.{signals_there}
 use Rattle.netlist_text.proofs.GoodNames.{good_statement, statement_good}
@@ -26,8 +27,8 @@ pub record Named (n : Netlist) : Type 0 where
   pub in_order : wired n.circuit.inputs 0 n.circuit.gates ≡ true
   pub inputs_named : length n.input_names ≡ n.circuit.inputs
   pub gates_named : length n.gate_names ≡ length n.circuit.gates
-  pub input_names_good : all good_name n.input_names ≡ true
-  pub gate_names_good : all good_name n.gate_names ≡ true
+  pub input_names_good : list_all good_name n.input_names ≡ true
+  pub gate_names_good : list_all good_name n.gate_names ≡ true
   pub inputs_distinct : Distinct n.input_names
   pub gates_distinct : Distinct n.gate_names
   pub apart : Apart n.input_names n.gate_names
@@ -127,8 +128,8 @@ admit_drawn d line (gate n k ns) e h g r =
     let gs = d.netlist.circuit.gates in
     let made : Gate = record { kind = k; operands = ss } in
     let few : length gs < 256 = ltb-true (length gs) 256 w.2 in
-    let fit : fits I (0 + length gs) made ≡ true = and_from (takes k (length ss)) (all (there I (0 + length gs)) ss) (ap (takes k) found.1 ∙ a1.0)
-    (subst (λ (m : ℕ). all (there I m) ss ≡ true) (h.named.gates_named ∙ sym (zero-add (length gs))) (subst (λ (j : ℕ). all (there j (length d.netlist.gate_names)) ss ≡ true) h.named.inputs_named found.0)) in
+    let fit : fits I (0 + length gs) made ≡ true = and_from (takes k (length ss)) (list_all (there I (0 + length gs)) ss) (ap (takes k) found.1 ∙ a1.0)
+    (subst (λ (m : ℕ). list_all (there I m) ss ≡ true) (h.named.gates_named ∙ sym (zero-add (length gs))) (subst (λ (j : ℕ). list_all (there j (length d.netlist.gate_names)) ss ≡ true) h.named.inputs_named found.0)) in
     subst Drawn w.3 (record {
       named = record {
         few_inputs = h.named.few_inputs;
@@ -137,7 +138,7 @@ admit_drawn d line (gate n k ns) e h g r =
         inputs_named = h.named.inputs_named;
         gates_named = length_push d.netlist.gate_names n ∙ ap (λ m. m + 1) h.named.gates_named ∙ sym (length_push gs made);
         input_names_good = h.named.input_names_good;
-        gate_names_good = all_push good_name d.netlist.gate_names n h.named.gate_names_good (and_parts (good_name n) (all good_name ns) g).0;
+        gate_names_good = all_push good_name d.netlist.gate_names n h.named.gate_names_good (and_parts (good_name n) (list_all good_name ns) g).0;
         inputs_distinct = h.named.inputs_distinct;
         gates_distinct = distinct_push d.netlist.gate_names n h.named.gates_distinct other.1;
         apart = apart_push d.netlist.input_names d.netlist.gate_names n h.named.apart other.0;

@@ -1,3 +1,4 @@
+pub mod Positions
 pub mod Lexing
 pub mod Signals
 pub mod GoodNames

@@ -5,7 +5,7 @@ use Rattle.std.proofs.lemmas.List.{append-nil, length-append}
 use Rattle.std.proofs.lemmas.Bool.{and_parts, and_from, leb-true}
 use Rattle.circuit.specs.declared.gate.Signal.{Signal}
 use Rattle.circuit.specs.declared.gate.Signal.TheVariants.{Input, Gate}
-use Rattle.circuit.specs.Lists.{all}
+use Rattle.std.specs.List.{list_all}
 use Rattle.circuit.specs.Circuits.{there}
 use Rattle.circuit.proofs.Tested.{all_at}
 use Rattle.netlist_text.specs.Statements.{Name}
@@ -31,12 +31,12 @@ module _ (n : Netlist) (sound : SoundNetlist n) where
   name_of_good (Gate zero) e = absurd (omega (arith, (number_bounds zero (length n.circuit.gates) e).0))
   name_of_good (Gate (suc g)) e = all_at good_name n.gate_names g [] (omega (arith, (number_bounds (suc g) (length n.circuit.gates) e).1, sound.gates_named)) sound.gate_names_good
 
-  pub names_of_good : (ss : List Signal) → all (there n.circuit.inputs (length n.circuit.gates)) ss ≡ true → all good_name (map (name_of n) ss) ≡ true
+  pub names_of_good : (ss : List Signal) → list_all (there n.circuit.inputs (length n.circuit.gates)) ss ≡ true → list_all good_name (map (name_of n) ss) ≡ true
   names_of_good [] e = refl
   names_of_good (s ∷ ss) e =
       let t = there n.circuit.inputs (length n.circuit.gates) in
-      let p = and_parts (t s) (all t ss) e in
-      and_from (good_name (name_of n s)) (all good_name (map (name_of n) ss)) (name_of_good s p.0) (names_of_good ss p.1)
+      let p = and_parts (t s) (list_all t ss) e in
+      and_from (good_name (name_of n s)) (list_all good_name (map (name_of n) ss)) (name_of_good s p.0) (names_of_good ss p.1)
 
 -- ── the name gives back the signal ──
 own_all : (xs : List Name) (i : ℕ) → Distinct xs → i < length xs → find 1 xs (get_or xs i []) ≡ Some (suc i)
@@ -67,9 +67,9 @@ module _ (m n : Netlist) (begins : Begins m n) (sound : SoundNetlist n) where
       let h : g < length m.gate_names = omega (arith, (number_bounds (suc g) (length m.gate_names) e).1) in
       ap (λ o. either o (find 1 m.gate_names (get_or n.gate_names g []))) (input_not_found g h) ∙ ap (either None) (gate_found g h)
 
-  pub signals_of_names : (ss : List Signal) → all (there (length m.input_names) (length m.gate_names)) ss ≡ true → signals m (map (name_of n) ss) ≡ Some ss
+  pub signals_of_names : (ss : List Signal) → list_all (there (length m.input_names) (length m.gate_names)) ss ≡ true → signals m (map (name_of n) ss) ≡ Some ss
   signals_of_names [] e = refl
   signals_of_names (s ∷ ss) e =
       let t = there (length m.input_names) (length m.gate_names) in
-      let p = and_parts (t s) (all t ss) e in
+      let p = and_parts (t s) (list_all t ss) e in
       ap (λ o. joined_to o (signals m (map (name_of n) ss))) (signal_of_name s p.0) ∙ ap (joined_to (Some s)) (signals_of_names ss p.1)

@@ -5,16 +5,16 @@
 use Rattle.std.proofs.Common.{◌≡◌, ℕ, suc, ◌+◌, ◌<◌, ◌≤◌, true, false, ltb, List, [], ◌∷◌, ◌++◌, map, length, get_or, Ok, Err, sym, refl, ap, ◌∙◌, subst, ⊎_elim, arith}
 use Rattle.std.proofs.lemmas.List.{append-nil, append_assoc, length-append, length_push, get_or_append_left, get_or_at}
 use Rattle.std.proofs.lemmas.Bool.Decides.{nat_tests}
-use Rattle.std.proofs.lemmas.Bool.{cond-false, cases_Bool, and_parts, or_from, lt-ltb, eqb-true}
+use Rattle.std.proofs.lemmas.Bool.{cond-false, cases_Bool, and_parts, or_from, lt-ltb}
 use Rattle.circuit.specs.declared.gate.Signal.{Signal}
-use Rattle.circuit.specs.declared.gate.Signal.TheVariants.{Input, Gate}
-use Rattle.circuit.specs.Lists.{all, any}
+use Rattle.circuit.specs.SignalEq.{signal_eq, signal_eq_decides}
+use Rattle.std.specs.List.{list_all, list_any}
 use Rattle.circuit.specs.Circuits.{there}
 use Rattle.circuit.specs.Circuits as circuits
 use Rattle.circuit.proofs.Wiring.{there_more}
 use Rattle.netlist_text.specs.Statements.{Name, output}
 use Rattle.netlist_text.specs.Netlists.{Netlist, OutputLine, Draft, signal}
-use Rattle.netlist_text.specs.Meaning.{output_added, refusal, same_signal, shows, shown, and_then, with_outputs, lacking, finished}
+use Rattle.netlist_text.specs.Meaning.{output_added, refusal, shows, shown, and_then, with_outputs, lacking, finished}
 use Rattle.netlist_text.specs.Law.{Different, SoundNetlist}
 use Rattle.netlist_text.specs.Written.{name_of}
 use Rattle.netlist_text.proofs.NamedSignals.{Begins, signal_of_name}
@@ -31,25 +31,19 @@ abbrev pub declaring : Netlist → List OutputLine → Draft
 declaring n os = up_to n n.gate_names n.circuit.gates os
 
 -- ── no signal is shown twice ──
-same_signal_equal : (s t : Signal) → same_signal s t ≡ true → s ≡ t
-same_signal_equal (Input i) (Input j) e = ap Input (eqb-true i j e)
-same_signal_equal (Input i) (Gate h) e = absurd (grind arith)
-same_signal_equal (Gate g) (Input j) e = absurd (grind arith)
-same_signal_equal (Gate g) (Gate h) e = ap Gate (eqb-true g h e)
-
-none_same : (s : Signal) (ss : List Signal) → ((i : ℕ) → i < length ss → same_signal s (get_or ss i s) ≡ false) → any (same_signal s) ss ≡ false
+none_same : (s : Signal) (ss : List Signal) → ((i : ℕ) → i < length ss → signal_eq (get_or ss i s) s ≡ false) → list_any (λ y. signal_eq y s) ss ≡ false
 none_same s [] f = refl
-none_same s (t ∷ ss) f = or_from (same_signal s t) (any (same_signal s) ss) (f 0 (omega arith)) (none_same s ss (λ i h. f (suc i) (omega arith)))
+none_same s (t ∷ ss) f = or_from (signal_eq t s) (list_any (λ y. signal_eq y s) ss) (f 0 (omega arith)) (none_same s ss (λ i h. f (suc i) (omega arith)))
 
-not_yet_shown : (ss : List Signal) (s : Signal) (ts : List Signal) → Different (ss ++ s ∷ ts) → any (same_signal s) ss ≡ false
+not_yet_shown : (ss : List Signal) (s : Signal) (ts : List Signal) → Different (ss ++ s ∷ ts) → list_any (λ y. signal_eq y s) ss ≡ false
 not_yet_shown ss s ts d =
     none_same s ss (λ i h. ⊎_elim
     (λ t.
-    let same = get_or_append_left ss (s ∷ ts) s i h ∙ sym (same_signal_equal s (get_or ss i s) t) ∙ sym (get_or_at ss s ts s (length ss) refl) in
+    let same = get_or_append_left ss (s ∷ ts) s i h ∙ (signal_eq_decides (get_or ss i s) s).0 t ∙ sym (get_or_at ss s ts s (length ss) refl) in
     let len = length-append ss (s ∷ ts) in
     absurd (omega (arith, d i (length ss) s (omega arith) (omega arith) same)))
     (λ f. f)
-    (cases_Bool (same_signal s (get_or ss i s))))
+    (cases_Bool (signal_eq (get_or ss i s) s)))
 
 -- ── the outputs of the whole text ──
 nothing_lacks : (n : Netlist) (ws : List Name) (gs : List circuits.Gate) (os : List OutputLine) → 1 ≤ n.circuit.inputs → 1 ≤ length gs → 1 ≤ length os → lacking (up_to n ws gs os) ≡ false
@@ -65,10 +59,10 @@ module _ (n : Netlist) (sound : SoundNetlist n) where
       ap (shown (showing n ss) line) (signal_of_name (showing n ss) n begins sound s t-named)
       ∙ cond-false (shows (showing n ss) s) (Err (refusal 10 line 0)) (Ok (showing n (ss ++ s ∷ []))) (not_yet_shown ss s ts (subst Different (sym e) sound.outputs_different))
 
-  outputs_shown : (line : ℕ) (ss ts : List Signal) → ss ++ ts ≡ n.circuit.outputs → all (there n.circuit.inputs (length n.circuit.gates)) ts ≡ true → with_outputs (showing n ss) (output_lines n line ts) ≡ Ok n
+  outputs_shown : (line : ℕ) (ss ts : List Signal) → ss ++ ts ≡ n.circuit.outputs → list_all (there n.circuit.inputs (length n.circuit.gates)) ts ≡ true → with_outputs (showing n ss) (output_lines n line ts) ≡ Ok n
   outputs_shown line ss [] e a = ap (λ os. Ok (showing n os)) (sym (append-nil ss) ∙ e)
   outputs_shown line ss (t ∷ ts) e a =
-      let p = and_parts (there n.circuit.inputs (length n.circuit.gates) t) (all (there n.circuit.inputs (length n.circuit.gates)) ts) a in
+      let p = and_parts (there n.circuit.inputs (length n.circuit.gates) t) (list_all (there n.circuit.inputs (length n.circuit.gates)) ts) a in
       ap (λ r. and_then r (λ m. with_outputs m (output_lines n (line + 1) ts))) (output_shown ss t ts line e p.0)
       ∙ outputs_shown (line + 1) (ss ++ t ∷ []) ts (append_assoc ss (t ∷ []) ts ∙ e) p.1
 

@@ -3,7 +3,7 @@ use Rattle.std.proofs.Common.{◌≡◌, ℕ, suc, ◌+◌, ◌<◌, ◌≤◌, 
 use Rattle.std.proofs.lemmas.Bool.{cond-true, cond-false, cases_Bool, and_from, le-leb}
 use Rattle.circuit.specs.declared.gate.Signal.{Signal}
 use Rattle.circuit.specs.declared.gate.Signal.TheVariants.{Input, Gate}
-use Rattle.circuit.specs.Lists.{all}
+use Rattle.std.specs.List.{list_all}
 use Rattle.circuit.specs.Circuits.{there}
 use Rattle.netlist_text.specs.Statements.{Name}
 use Rattle.netlist_text.specs.Netlists.{Netlist, same_name, find, either, signal, joined_to, signals}
@@ -32,10 +32,10 @@ joined_some None b ss e = absurd (grind arith)
 joined_some (Some s) None ss e = absurd (grind arith)
 joined_some (Some s) (Some rest) ss e = let q : ss ≡ s ∷ rest = cc in (s, rest, refl, refl, q)
 
-pub signals_there : (n : Netlist) (ws : List Name) (ss : List Signal) → signals n ws ≡ Some ss → (all (there (length n.input_names) (length n.gate_names)) ss ≡ true) × (length ss ≡ length ws)
-signals_there n [] ss e = let q : [] ≡ ss = cc in (subst (λ (l : List Signal). all (there (length n.input_names) (length n.gate_names)) l ≡ true) q refl, ap length (sym q))
+pub signals_there : (n : Netlist) (ws : List Name) (ss : List Signal) → signals n ws ≡ Some ss → (list_all (there (length n.input_names) (length n.gate_names)) ss ≡ true) × (length ss ≡ length ws)
+signals_there n [] ss e = let q : [] ≡ ss = cc in (subst (λ (l : List Signal). list_all (there (length n.input_names) (length n.gate_names)) l ≡ true) q refl, ap length (sym q))
 signals_there n (w ∷ ws) ss e =
     let p = joined_some (signal n w) (signals n ws) ss e in
     let r = signals_there n ws p.1 p.3 in
     let t = there (length n.input_names) (length n.gate_names) in
-    (subst (λ (l : List Signal). all t l ≡ true) (sym p.4) (and_from (t p.0) (all t p.1) (signal_there n w p.0 p.2) r.0), ap length p.4 ∙ ap suc r.1)
+    (subst (λ (l : List Signal). list_all t l ≡ true) (sym p.4) (and_from (t p.0) (list_all t p.1) (signal_there n w p.0 p.2) r.0), ap length p.4 ∙ ap suc r.1)

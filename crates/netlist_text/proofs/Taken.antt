@@ -1,32 +1,28 @@
 -- Every netlist that a text gives is sound.
 use Rattle.std.proofs.Common.{◌≡◌, ℕ, zero, suc, ◌+◌, ◌<◌, ◌≤◌, Bool, true, false, cond, ◌||◌, eqb, leb, List, [], ◌∷◌, ◌++◌, length, get_or, Some, None, Ok, Err, Option, Result, sym, refl, ap, ◌∙◌, subst, ⊎_elim, arith}
 use Rattle.std.proofs.lemmas.List.{length_push, get_or_push, get_or_append_left}
-use Rattle.std.proofs.lemmas.Bool.{cond-true, cond-false, cases_Bool, cases_lt, both_ways, or_parts, eqb-false, eq-eqb}
+use Rattle.std.proofs.lemmas.Bool.{cond-true, cond-false, cases_Bool, cases_lt, both_ways, or_parts, eqb-false}
 use Rattle.refusal.specs.declared.Refusal.{Refusal}
 use Rattle.circuit.specs.declared.gate.Signal.{Signal}
-use Rattle.circuit.specs.declared.gate.Signal.TheVariants.{Input, Gate}
-use Rattle.circuit.specs.Lists.{all, any}
+use Rattle.circuit.specs.SignalEq.{signal_eq, signal_eq_decides}
+use Rattle.std.specs.List.{list_all, list_any}
 use Rattle.circuit.specs.Circuits.{there}
 use Rattle.circuit.proofs.Tested.{all_push}
 use Rattle.netlist_text.specs.Words.{lines}
 use Rattle.netlist_text.specs.Statements.{none}
 use Rattle.netlist_text.specs.Netlists.{Netlist, OutputLine, Draft, blank, signal}
-use Rattle.netlist_text.specs.Meaning.{refusal, read_line, same_signal, shows, output_shown, shown, and_then, with_outputs, lacking, finished, read_lines}
+use Rattle.netlist_text.specs.Meaning.{refusal, read_line, shows, output_shown, shown, and_then, with_outputs, lacking, finished, read_lines}
 use Rattle.netlist_text.specs.Law.{Different, SoundNetlist, TakenIsSound}
 use Rattle.netlist_text.proofs.Signals.{signal_there}
 use Rattle.netlist_text.proofs.Drawn.{Named, Drawn, blank_drawn, line_drawn}
 
 -- ── signals that are no outputs yet ──
-pub same_signal_itself : (s : Signal) → same_signal s s ≡ true
-same_signal_itself (Input i) = eq-eqb i i refl
-same_signal_itself (Gate g) = eq-eqb g g refl
-
-not_any : {A : Type 0} (p : A → Bool) (xs : List A) (i : ℕ) (d : A) → any p xs ≡ false → i < length xs → p (get_or xs i d) ≡ false
+not_any : {A : Type 0} (p : A → Bool) (xs : List A) (i : ℕ) (d : A) → list_any p xs ≡ false → i < length xs → p (get_or xs i d) ≡ false
 not_any p [] i d e h = absurd (omega arith)
-not_any p (x ∷ xs) zero d e h = (or_parts (p x) (any p xs) e).0
-not_any p (x ∷ xs) (suc i) d e h = not_any p xs i d (or_parts (p x) (any p xs) e).1 (omega arith)
+not_any p (x ∷ xs) zero d e h = (or_parts (p x) (list_any p xs) e).0
+not_any p (x ∷ xs) (suc i) d e h = not_any p xs i d (or_parts (p x) (list_any p xs) e).1 (omega arith)
 
-different_push : (ss : List Signal) (s : Signal) → Different ss → any (same_signal s) ss ≡ false → Different (ss ++ s ∷ [])
+different_push : (ss : List Signal) (s : Signal) → Different ss → list_any (λ y. signal_eq y s) ss ≡ false → Different (ss ++ s ∷ [])
 different_push ss s f none i j d hi hj e =
     ⊎_elim
     (λ li. ⊎_elim
@@ -46,12 +42,12 @@ different_push ss s f none i j d hi hj e =
     last k h ge = get_or_push ss s d k (omega (arith, length_push ss s))
 
     unlike : (k : ℕ) → k < length ss → get_or ss k d ≡ s → ⊥
-    unlike k h q = both_ways (same_signal s (get_or ss k d)) (not_any (same_signal s) ss k d none h) (ap (same_signal s) q ∙ same_signal_itself s)
+    unlike k h q = both_ways (signal_eq (get_or ss k d) s) (not_any (λ y. signal_eq y s) ss k d none h) ((signal_eq_decides (get_or ss k d) s).1 q)
 
 -- ── the outputs, one after another ──
 pub record Shown (n : Netlist) : Type 0 where
   pub named : Named n
-  pub there_all : all (there n.circuit.inputs (length n.circuit.gates)) n.circuit.outputs ≡ true
+  pub there_all : list_all (there n.circuit.inputs (length n.circuit.gates)) n.circuit.outputs ≡ true
   pub different : Different n.circuit.outputs
 
 pub shown_ok : (n : Netlist) (line : ℕ) (o : Option Signal) (m : Netlist) → shown n line o ≡ Ok m → (s : Signal) × (o ≡ Some s) × (shows n s ≡ false) × (output_shown n s ≡ m)
@@ -114,7 +110,7 @@ finished_sound d m h e = ⊎_elim
     start : Shown n
     start = record {
       named = h.named;
-      there_all = ap (λ (ss : List Signal). all (there n.circuit.inputs (length n.circuit.gates)) ss) h.no_outputs;
+      there_all = ap (λ (ss : List Signal). list_all (there n.circuit.inputs (length n.circuit.gates)) ss) h.no_outputs;
       different = subst Different (sym h.no_outputs) (λ i j x a b q. absurd (omega arith));
     }
 

@@ -5,7 +5,7 @@ use Rattle.std.proofs.lemmas.Bool.{and_parts, and_from, leb-true, eqb-true}
 use Rattle.circuit.specs.declared.kind.Kind.{Kind}
 use Rattle.circuit.specs.declared.kind.Kind.TheVariants.{And, Or, Nand, Nor, Xor, Xnor, Not}
 use Rattle.circuit.specs.Kinds.{takes, several}
-use Rattle.circuit.specs.Lists.{all}
+use Rattle.std.specs.List.{list_all}
 use Rattle.circuit.specs.Circuits.{Gate, there, fits, wired}
 use Rattle.circuit.proofs.Wiring.{all_there_more}
 use Rattle.netlist_text.specs.Statements.{Name, Statement, input, output, gate, none}
@@ -33,42 +33,42 @@ takes_bounds Not m e = let h = eqb-true m 1 e in (omega arith, omega arith)
 -- ── what a test says of each part ──
 -- a test passes gates with good names and from 1 to 8 operands
 abbrev PassesGates : (Statement → Bool) → Type 0
-PassesGates p = (w : Name) (k : Kind) (ns : List Name) → good_name w ≡ true → not (none ns) ≡ true → all good_name ns ≡ true → length ns ≤ 8 → p (gate w k ns) ≡ true
+PassesGates p = (w : Name) (k : Kind) (ns : List Name) → good_name w ≡ true → not (none ns) ≡ true → list_all good_name ns ≡ true → length ns ≤ 8 → p (gate w k ns) ≡ true
 
 module _ (n : Netlist) (sound : SoundNetlist n) (p : Statement → Bool) where
-  inputs_pass : ((w : Name) → good_name w ≡ true → p (input w) ≡ true) → all p (map input n.input_names) ≡ true
+  inputs_pass : ((w : Name) → good_name w ≡ true → p (input w) ≡ true) → list_all p (map input n.input_names) ≡ true
   inputs_pass h = all_map good_name p input n.input_names h sound.input_names_good
 
-  outputs_pass : ((w : Name) → good_name w ≡ true → p (output w) ≡ true) → all p (map (λ s. output (name_of n s)) n.circuit.outputs) ≡ true
+  outputs_pass : ((w : Name) → good_name w ≡ true → p (output w) ≡ true) → list_all p (map (λ s. output (name_of n s)) n.circuit.outputs) ≡ true
   outputs_pass h =
       all_map (there n.circuit.inputs (length n.circuit.gates)) p (λ s. output (name_of n s)) n.circuit.outputs
       (λ s t. h (name_of n s) (name_of_good n sound s t)) sound.circuit.shown
 
-  gates_pass_from : PassesGates p → (m : ℕ) (ws : List Name) (gs : List Gate) → m + length gs ≤ length n.circuit.gates → all good_name ws ≡ true → wired n.circuit.inputs m gs ≡ true → all p (gate_statements n ws gs) ≡ true
+  gates_pass_from : PassesGates p → (m : ℕ) (ws : List Name) (gs : List Gate) → m + length gs ≤ length n.circuit.gates → list_all good_name ws ≡ true → wired n.circuit.inputs m gs ≡ true → list_all p (gate_statements n ws gs) ≡ true
   gates_pass_from h m [] gs few e wd = refl
   gates_pass_from h m (w ∷ ws) [] few e wd = refl
   gates_pass_from h m (w ∷ ws) (g ∷ gs) few e wd =
       let I = n.circuit.inputs in
       let names = map (name_of n) g.operands in
-      let q = and_parts (good_name w) (all good_name ws) e in
+      let q = and_parts (good_name w) (list_all good_name ws) e in
       let r = and_parts (fits I m g) (wired I (suc m) gs) wd in
-      let f = and_parts (takes g.kind (length g.operands)) (all (there I m) g.operands) r.0 in
+      let f = and_parts (takes g.kind (length g.operands)) (list_all (there I m) g.operands) r.0 in
       let b = takes_bounds g.kind (length g.operands) f.0 in
       let len = length-map g.operands (name_of n) in
       let here = h w g.kind names q.0 (some_from_length names (omega arith)) (names_of_good n sound g.operands (all_there_more I I m (length n.circuit.gates) g.operands (omega arith) (omega arith) f.1)) (omega arith) in
-      and_from (p (gate w g.kind names)) (all p (gate_statements n ws gs)) here (gates_pass_from h (suc m) ws gs (omega arith) q.1 r.1)
+      and_from (p (gate w g.kind names)) (list_all p (gate_statements n ws gs)) here (gates_pass_from h (suc m) ws gs (omega arith) q.1 r.1)
 
-  gates_pass : PassesGates p → all p (gate_statements n n.gate_names n.circuit.gates) ≡ true
+  gates_pass : PassesGates p → list_all p (gate_statements n n.gate_names n.circuit.gates) ≡ true
   gates_pass h = gates_pass_from h 0 n.gate_names n.circuit.gates (omega arith) sound.gate_names_good sound.circuit.in_order
 
 -- ── the statements ──
-pub statements_writable : (n : Netlist) → SoundNetlist n → all writable (statements n) ≡ true
+pub statements_writable : (n : Netlist) → SoundNetlist n → list_all writable (statements n) ≡ true
 statements_writable n sound =
     let gates = gate_statements n n.gate_names n.circuit.gates in
     let outputs = map (λ s. output (name_of n s)) n.circuit.outputs in
     all_append writable (map input n.input_names) (gates ++ outputs) (inputs_pass n sound writable (λ w h. h))
     (all_append writable gates outputs
-    (gates_pass n sound writable (λ w k ns h s a few. and_from (good_name w) (not (none ns) && all good_name ns) h (and_from (not (none ns)) (all good_name ns) s a)))
+    (gates_pass n sound writable (λ w k ns h s a few. and_from (good_name w) (not (none ns) && list_all good_name ns) h (and_from (not (none ns)) (list_all good_name ns) s a)))
     (outputs_pass n sound writable (λ w h. h)))
 
 gate_statements_length : (n : Netlist) (ws : List Name) (gs : List Gate) → length (gate_statements n ws gs) ≤ length gs

@@ -6,7 +6,7 @@
 --   SoundNetlist a sound circuit with an input, an output and a gate, whose signals have good names, each its own, and no output twice
 use Rattle.std.specs.Prelude.{◌≡◌, ℕ, ◌<◌, ◌≤◌, Bool, true, false, not, ◌&&◌, List, [], length, Ok, slice_index_or}
 use Rattle.circuit.specs.declared.gate.Signal.{Signal}
-use Rattle.circuit.specs.Lists.{all}
+use Rattle.std.specs.List.{list_all}
 use Rattle.circuit.specs.Circuits.{Sound}
 use Rattle.netlist_text.specs.Words.{name_byte}
 use Rattle.netlist_text.specs.Statements.{Name, is_name, none}
@@ -14,7 +14,7 @@ use Rattle.netlist_text.specs.Netlists.{Netlist, same_name}
 use Rattle.netlist_text.specs.Meaning.{meaning}
 
 abbrev pub good_name : Name → Bool
-good_name n = not (none n) && (all name_byte n && is_name n)
+good_name n = not (none n) && (list_all name_byte n && is_name n)
 
 abbrev pub Distinct : List Name → Type 0
 Distinct ns = (i j : ℕ) → i < length ns → j < length ns → same_name (slice_index_or ns i []) (slice_index_or ns j []) ≡ true → i ≡ j
@@ -32,8 +32,8 @@ pub record SoundNetlist (n : Netlist) : Type 0 where
   pub an_output : 1 ≤ length n.circuit.outputs
   pub inputs_named : length n.input_names ≡ n.circuit.inputs
   pub gates_named : length n.gate_names ≡ length n.circuit.gates
-  pub input_names_good : all good_name n.input_names ≡ true
-  pub gate_names_good : all good_name n.gate_names ≡ true
+  pub input_names_good : list_all good_name n.input_names ≡ true
+  pub gate_names_good : list_all good_name n.gate_names ≡ true
   pub inputs_distinct : Distinct n.input_names
   pub gates_distinct : Distinct n.gate_names
   pub apart : Apart n.input_names n.gate_names

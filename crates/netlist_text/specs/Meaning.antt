@@ -3,13 +3,14 @@
 --   read_line   a draft after one more line of the text
 --   finished    the netlist of a whole text
 --   meaning     what a text means
-use Rattle.std.specs.Prelude.{ℕ, ◌+◌, Bool, false, cond, not, ◌||◌, List, [], ◌∷◌, ◌++◌, length, is_some, Some, None, Ok, Err, Option, Result, ◌==◌, nat_le, nat_lt}
+use Rattle.std.specs.Prelude.{ℕ, ◌+◌, Bool, cond, not, ◌||◌, List, [], ◌∷◌, ◌++◌, length, is_some, Some, None, Ok, Err, Option, Result, ◌==◌, nat_le, nat_lt}
 use Rattle.refusal.specs.declared.Refusal.{Refusal}
+use Rattle.refusal.specs.Asking.{ask}
 use Rattle.circuit.specs.declared.kind.Kind.{Kind}
 use Rattle.circuit.specs.declared.gate.Signal.{Signal}
-use Rattle.circuit.specs.declared.gate.Signal.TheVariants.{Input, Gate}
+use Rattle.circuit.specs.SignalEq.{signal_eq}
 use Rattle.circuit.specs.Kinds.{takes}
-use Rattle.circuit.specs.Lists.{any}
+use Rattle.std.specs.List.{list_any}
 use Rattle.circuit.specs.Circuits.{with_input, with_gate, with_output}
 use Rattle.netlist_text.specs.Words.{lines, lexemes, stray, skipped}
 use Rattle.netlist_text.specs.Statements.{Name, Statement, input, output, gate, statement, none}
@@ -27,10 +28,6 @@ gate_added d n k ss = record { netlist = record { circuit = with_gate d.netlist.
 
 abbrev pub output_added : Draft → ℕ → Name → Draft
 output_added d line n = record { netlist = d.netlist; outputs = d.outputs ++ record { line = line; name = n } ∷ [] }
-
--- asked: is it so? If not, the number of the question
-abbrev pub ask : {X : Type 0} → ℕ → Bool → Result X ℕ → Result X ℕ
-ask q so r = cond so r (Err q)
 
 -- whether the name is that of no signal yet
 abbrev pub new : Draft → Name → Bool
@@ -63,15 +60,9 @@ abbrev pub read_line : Draft → ℕ → List ℕ → Result Draft Refusal
 read_line d line l = cond (skipped l) (Ok d) (clean d line l (stray 1 l))
 
 -- ── the whole text ──
-abbrev pub same_signal : Signal → Signal → Bool
-same_signal (Input i) (Input j) = i == j
-same_signal (Input i) (Gate h) = false
-same_signal (Gate g) (Input j) = false
-same_signal (Gate g) (Gate h) = g == h
-
 -- whether the signal is one of the outputs so far
 abbrev pub shows : Netlist → Signal → Bool
-shows n s = any (same_signal s) n.circuit.outputs
+shows n s = list_any (λ t. signal_eq t s) n.circuit.outputs
 
 abbrev pub output_shown : Netlist → Signal → Netlist
 output_shown n s = record { circuit = with_output n.circuit s; input_names = n.input_names; gate_names = n.gate_names }

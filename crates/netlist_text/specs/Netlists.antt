@@ -2,7 +2,8 @@
 --   Netlist   a circuit, and the names of its inputs and gates, by number
 --   Draft     what the lines of a text so far declare: a netlist without outputs, and the OUTPUT lines
 --   signal    the signal of a name
-use Rattle.std.specs.Prelude.{ℕ, ◌+◌, Bool, cond, List, [], ◌∷◌, Some, None, Option}
+use Rattle.std.specs.Prelude.{ℕ, Bool, List, [], ◌∷◌, Some, None, Option}
+use Rattle.std.specs.List.{position_from}
 use Rattle.std.specs.Str.{bytes_eq}
 use Rattle.circuit.specs.declared.gate.Signal.{Signal}
 use Rattle.circuit.specs.declared.gate.Signal.TheVariants.{Input, Gate}
@@ -31,8 +32,7 @@ same_name = bytes_eq
 
 -- the number of the first of these names that is n, where the first has number i
 abbrev pub find : ℕ → List Name → Name → Option ℕ
-find i [] n = None
-find i (x ∷ xs) n = cond (same_name x n) (Some i) (find (i + 1) xs n)
+find i ns n = position_from (λ x. same_name x n) i ns
 
 abbrev pub either : Option ℕ → Option ℕ → Option Signal
 either (Some i) o = Some (Input i)

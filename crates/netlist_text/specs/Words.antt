@@ -3,8 +3,8 @@
 --   stray                the column of the first byte that may not stand in a line
 --   skipped              whether a line is empty or a comment
 --   lexemes              the words and signs of a line, in order
---   line_len, word_len   how far the first line, the first word reaches
-use Rattle.std.specs.Prelude.{ℕ, suc, ◌+◌, Bool, true, false, cond, ◌||◌, List, [], ◌∷◌, Some, None, Option, ◌==◌}
+use Rattle.std.specs.Prelude.{ℕ, Bool, true, false, cond, not, ◌||◌, List, [], ◌∷◌, Option, ◌==◌}
+use Rattle.std.specs.List.{onto_first, position_from}
 use Rattle.std.specs.Char.{is_ascii_alphanumeric}
 
 -- a letter, a digit or an underscore
@@ -21,18 +21,12 @@ line_byte b = name_byte b || (b == 32 || sign_byte b)
 
 -- where the first of these bytes has column k
 abbrev pub stray : ℕ → List ℕ → Option ℕ
-stray k [] = None
-stray k (b ∷ bs) = cond (line_byte b) (stray (k + 1) bs) (Some k)
-
--- b in front of the first of these lines
-abbrev pub on_first : ℕ → List (List ℕ) → List (List ℕ)
-on_first b [] = (b ∷ []) ∷ []
-on_first b (l ∷ ls) = (b ∷ l) ∷ ls
+stray = position_from (λ b. not (line_byte b))
 
 -- a line ends with byte 10, or with the text
 abbrev pub lines : List ℕ → List (List ℕ)
 lines [] = []
-lines (b ∷ bs) = cond (b == 10) ([] ∷ lines bs) (on_first b (lines bs))
+lines (b ∷ bs) = cond (b == 10) ([] ∷ lines bs) (onto_first b (lines bs))
 
 -- empty, or begun with #
 abbrev pub skipped : List ℕ → Bool
@@ -61,12 +55,3 @@ lexeme b more ts = cond (b == 32) ts (cond (name_byte b) (cond more (in_word b t
 abbrev pub lexemes : List ℕ → List Lexeme
 lexemes [] = []
 lexemes (b ∷ bs) = lexeme b (starts_name bs) (lexemes bs)
-
--- ── lengths ──
-abbrev pub line_len : List ℕ → ℕ
-line_len [] = 0
-line_len (b ∷ bs) = cond (b == 10) 0 (suc (line_len bs))
-
-abbrev pub word_len : List ℕ → ℕ
-word_len [] = 0
-word_len (b ∷ bs) = cond (name_byte b) (suc (word_len bs)) 0

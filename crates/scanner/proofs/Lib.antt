@@ -1,2 +1,2 @@
+pub mod Ahead
 pub mod Gathered
-pub mod BracketedNames

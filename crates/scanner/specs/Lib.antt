@@ -1,4 +1,3 @@
 pub mod Scanned
 pub mod Named
-pub mod Stepped
 pub mod Parsed

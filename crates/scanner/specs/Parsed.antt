@@ -1,28 +1,34 @@
 -- What the parser's answers say.
---   first_eight   the first eight of some names, and whether there are more
+--   up_to_eight   these names, unless there are more than eight
+--   one_more      names with one more behind them, unless there are more than eight
 --   Says          that a parsed statement is this one
 --   Parsed        what the answer for a line's bytes is
-use Rattle.std.specs.Prelude.{◌≡◌, ℕ, Bool, true, false, List, map, length, take, Some, None, Ok, Err, Option, Result, nat_lt}
-use Rattle.circuit.specs.declared.operands.Operands.{Operands}
-use Rattle.circuit.specs.Listed.{listed}
+use Rattle.std.specs.Prelude.{◌≡◌, ℕ, Bool, true, false, cond, List, [], ◌∷◌, ◌++◌, map, length, Some, None, Ok, Err, Option, Result, nat_lt}
+use Rattle.inline_list.specs.Listed.{listed}
+use Rattle.inline_list.specs.declared.list.InlineList.{InlineList}
+use Rattle.inline_list.specs.declared.list.Full.{Full}
 use Rattle.netlist_text.specs.Words.{lexemes, stray}
 use Rattle.netlist_text.specs.Statements.{Name, Statement, input, output, gate, statement}
 use Rattle.scanner.specs.declared.name.Name.{Name as HeldName}
 use Rattle.scanner.specs.declared.token.ScanFault.{ScanFault}
-use Rattle.scanner.specs.declared.statement.Bracketed.{Bracketed}
 use Rattle.scanner.specs.declared.statement.Statement.{Statement as HeldStatement}
 use Rattle.scanner.specs.declared.statement.Statement.TheVariants as held
 use Rattle.scanner.specs.Named.{name_of}
 
-abbrev pub names_of : Operands HeldName → List Name
+abbrev pub names_of : InlineList HeldName 8 → List Name
 names_of o = map name_of (listed o)
 
-abbrev pub first_eight : List Name → List Name × Bool
-first_eight ns = (take 8 ns, nat_lt 8 (length ns))
+abbrev pub up_to_eight : List Name → Option (List Name)
+up_to_eight ns = cond (nat_lt 8 (length ns)) None (Some ns)
 
--- the same, as the code holds them
-abbrev pub bracketed_of : Bracketed → List Name × Bool
-bracketed_of b = (names_of b.names, b.crowded)
+abbrev pub one_more : Option (List Name) → Name → Option (List Name)
+one_more None n = None
+one_more (Some ns) n = up_to_eight (ns ++ n ∷ [])
+
+-- the names that the code holds
+abbrev pub bracketed_of : Result (InlineList HeldName 8) Full → Option (List Name)
+bracketed_of (Ok o) = Some (names_of o)
+bracketed_of (Err e) = None
 
 -- a gate with more than eight operands
 abbrev pub crowded : Option Statement → Bool

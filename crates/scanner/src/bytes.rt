@@ -1,6 +1,7 @@
-// The bytes of a line: which may stand in it, and where it ends.
-ghost use Rattle.std.specs.Prelude.{◌≡◌, ◌≤◌, length};
-ghost use Rattle.netlist_text.specs.Words.{name_byte, sign_byte, line_byte, stray, word_len, line_len};
+// The bytes of a line: which may stand in it, and how far spaces and words go.
+ghost use Rattle.std.specs.Prelude.{◌≡◌, ◌<◌, ◌≤◌, ◌==◌, not, length, IfSome};
+ghost use Rattle.std.specs.List.{position_from, prefix_len};
+ghost use Rattle.netlist_text.specs.Words.{name_byte, sign_byte, line_byte, stray};
 ghost use Rattle.scanner.specs.Scanned.{column};
 
 use crate::token::ScanFault;
@@ -23,38 +24,36 @@ fn is_line_byte(b: u8) -> bool
     is_name_byte(b) || b == b' ' || is_sign_byte(b)
 }
 
+// Where the first byte is that may not stand in a line.
+fn stray(line: &[u8]) -> Option<usize>
+    ensures value { result ≡ position_from (λ b. not (line_byte b)) 0 line.now }
+    ensures within { IfSome result (λ at. at < length line.now) }
+{
+    line.iter().position(|b| !is_line_byte(*b))
+}
+
 // Whether every byte may stand in a line; the first that may not is the fault.
 pub(crate) fn check_bytes(line: &[u8]) -> Result<(), ScanFault>
     ensures { column result ≡ stray 1 line.now }
 {
-    for (i, b) in line.iter().enumerate() {
-        if !is_line_byte(*b) {
-            return Err(ScanFault { column: i + 1 });
-        }
+    match stray(line) {
+        Some(at) => Err(ScanFault { column: at + 1 }),
+        None => Ok(()),
     }
-    Ok(())
+}
+
+// How many spaces there are at the front.
+pub(crate) fn space_len(s: &[u8]) -> usize
+    ensures value { result ≡ prefix_len (λ b. b == 32) s.now }
+    ensures bound { result ≤ length s.now }
+{
+    s.iter().take_while(|b| **b == b' ').count()
 }
 
 // How many bytes at the front belong to one word.
 pub(crate) fn word_len(s: &[u8]) -> usize
-    ensures value { result ≡ word_len s.now }
+    ensures value { result ≡ prefix_len name_byte s.now }
     ensures bound { result ≤ length s.now }
 {
-    let mut n = 0;
-    while n < s.len() && is_name_byte(s[n]) {
-        n += 1;
-    }
-    n
-}
-
-// How many bytes come before the end of the first line.
-pub fn line_len(s: &[u8]) -> usize
-    ensures value { result ≡ line_len s.now }
-    ensures bound { result ≤ length s.now }
-{
-    let mut end = 0;
-    while end < s.len() && s[end] != b'\n' {
-        end += 1;
-    }
-    end
+    s.iter().take_while(|b| is_name_byte(**b)).count()
 }

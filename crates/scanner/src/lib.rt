@@ -3,16 +3,12 @@
 
 mod bytes;
 mod name;
-mod naming;
 mod parser;
 mod scanner;
 mod statement;
 mod token;
-mod tokens;
 
-pub use bytes::line_len;
-pub use name::Name;
-pub use naming::same_name;
+pub use name::{Name, same_name};
 pub use parser::parse;
 pub use statement::Statement;
 pub use token::ScanFault;

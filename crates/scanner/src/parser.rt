@@ -1,66 +1,64 @@
-// The statement of a line, from its tokens.
+// The statement of a line, from its words and signs.
 ghost use Rattle.std.specs.Prelude.{◌≡◌};
 ghost use Rattle.std.specs.Option.{option_map};
 ghost use Rattle.netlist_text.specs.Statements.{kind_of, names, declared, definition, statement};
-ghost use Rattle.scanner.specs.Stepped.{ahead};
-ghost use Rattle.scanner.specs.Parsed.{first_eight, bracketed_of, Says, Parsed};
+ghost use Rattle.scanner.specs.Named.{name_of};
+ghost use Rattle.scanner.specs.Scanned.{ahead};
+ghost use Rattle.scanner.specs.Parsed.{up_to_eight, one_more, bracketed_of, Says, Parsed};
 
 use crate::bytes::check_bytes;
 use crate::name::Name;
-use crate::naming::is_word;
 use crate::scanner::Scanner;
-use crate::statement::{Bracketed, Statement};
+use crate::statement::Statement;
 use crate::token::{ScanFault, Token};
 use circuit::{Kind, Operands};
+use inline_list::Full;
 
 fn kind_of(word: &[u8]) -> Option<Kind>
     ensures { result ≡ kind_of word.now }
 {
-    if is_word(word, b"AND") {
-        Some(Kind::And)
-    } else if is_word(word, b"OR") {
-        Some(Kind::Or)
-    } else if is_word(word, b"NAND") {
-        Some(Kind::Nand)
-    } else if is_word(word, b"NOR") {
-        Some(Kind::Nor)
-    } else if is_word(word, b"XOR") {
-        Some(Kind::Xor)
-    } else if is_word(word, b"XNOR") {
-        Some(Kind::Xnor)
-    } else if is_word(word, b"NOT") {
-        Some(Kind::Not)
-    } else {
-        None
+    match word {
+        b"AND" => Some(Kind::And),
+        b"OR" => Some(Kind::Or),
+        b"NAND" => Some(Kind::Nand),
+        b"NOR" => Some(Kind::Nor),
+        b"XOR" => Some(Kind::Xor),
+        b"XNOR" => Some(Kind::Xnor),
+        b"NOT" => Some(Kind::Not),
+        _ => None,
     }
 }
 
-// The names ahead, with commas between them, up to the bracket that ends the line: the first eight, and whether there are more.
-fn bracketed_names(from: Scanner<'_>) -> Option<Bracketed>
-    ensures { option_map bracketed_of result ≡ option_map first_eight (names (ahead from.entry)) }
+// These names with one more behind them, while there is room.
+fn one_more(names: Result<Operands<Name>, Full>, name: Name) -> Result<Operands<Name>, Full>
+    ensures { bracketed_of result ≡ one_more (bracketed_of names) (name_of name) }
 {
-    let mut s = from;
-    let mut names = Operands::none(Name::EMPTY);
-    let mut crowded = false;
+    let mut names = names?;
+    names.push(name)?;
+    Ok(names)
+}
+
+// The names ahead, with commas between them, up to the bracket that ends the line, unless there are more than eight.
+fn bracketed_names(from: Scanner<'_>) -> Option<Result<Operands<Name>, Full>>
+    ensures { option_map bracketed_of result ≡ option_map up_to_eight (names (ahead from.entry)) }
+{
+    let mut tokens = from;
+    let mut names = Ok(Operands::none(Name::none()));
     loop {
-        let Some(Token::Word(word)) = s.next_token() else {
+        let Some(Token::Word(word)) = tokens.next() else {
             return None;
         };
-        let Some(name) = Name::of(word) else {
-            return None;
-        };
-        if !names.push(name) {
-            crowded = true;
-        }
-        match s.next_token() {
-            Some(Token::Comma(_)) => {}
-            Some(Token::Close(_)) => break,
+        let name = Name::try_from(word).ok()?;
+        names = one_more(names, name);
+        match tokens.next()? {
+            Token::Comma(_) => {}
+            Token::Close(_) => break,
             _ => return None,
         }
     }
-    match s.next_token() {
+    match tokens.next() {
         Some(_) => None,
-        None => Some(Bracketed { names, crowded }),
+        None => Some(names),
     }
 }
 
@@ -68,20 +66,14 @@ fn bracketed_names(from: Scanner<'_>) -> Option<Bracketed>
 fn declaration(word: &[u8], from: Scanner<'_>) -> Option<Statement>
     ensures { Says result (declared word.now (names (ahead from.entry))) }
 {
-    let Some(bracketed) = bracketed_names(from) else {
+    let names = bracketed_names(from)?.ok()?;
+    let [name] = names.as_slice() else {
         return None;
     };
-    let names = bracketed.names.as_slice();
-    if names.len() != 1 {
-        return None;
-    }
-    let name = names[0];
-    if is_word(word, b"INPUT") {
-        Some(Statement::Input(name))
-    } else if is_word(word, b"OUTPUT") {
-        Some(Statement::Output(name))
-    } else {
-        None
+    match word {
+        b"INPUT" => Some(Statement::Input(*name)),
+        b"OUTPUT" => Some(Statement::Output(*name)),
+        _ => None,
     }
 }
 
@@ -89,42 +81,36 @@ fn declaration(word: &[u8], from: Scanner<'_>) -> Option<Statement>
 fn gate_definition(word: &[u8], from: Scanner<'_>) -> Option<Statement>
     ensures { Says result (definition word.now (ahead from.entry)) }
 {
-    let mut s = from;
-    let Some(Token::Word(kind)) = s.next_token() else {
+    let mut tokens = from;
+    let Some(Token::Word(kind)) = tokens.next() else {
         return None;
     };
-    let Some(kind) = kind_of(kind) else {
+    let kind = kind_of(kind)?;
+    let Some(Token::Open(_)) = tokens.next() else {
         return None;
     };
-    let Some(Token::Open(_)) = s.next_token() else {
-        return None;
-    };
-    let Some(bracketed) = bracketed_names(s) else {
-        return None;
-    };
-    let Some(name) = Name::of(word) else {
-        return None;
-    };
-    if bracketed.crowded {
-        return Some(Statement::Crowded);
-    }
-    Some(Statement::Gate {
-        name,
-        kind,
-        operands: bracketed.names,
+    let operands = bracketed_names(tokens)?;
+    let name = Name::try_from(word).ok()?;
+    Some(match operands {
+        Ok(operands) => Statement::Gate {
+            name,
+            kind,
+            operands,
+        },
+        Err(Full) => Statement::Crowded,
     })
 }
 
 fn line_statement(from: Scanner<'_>) -> Option<Statement>
     ensures { Says result (statement (ahead from.entry)) }
 {
-    let mut s = from;
-    let Some(Token::Word(word)) = s.next_token() else {
+    let mut tokens = from;
+    let Some(Token::Word(word)) = tokens.next() else {
         return None;
     };
-    match s.next_token() {
-        Some(Token::Open(_)) => declaration(word, s),
-        Some(Token::Equals(_)) => gate_definition(word, s),
+    match tokens.next()? {
+        Token::Open(_) => declaration(word, tokens),
+        Token::Equals(_) => gate_definition(word, tokens),
         _ => None,
     }
 }

@@ -1,10 +1,35 @@
-// A line whose bytes were checked, with the place that its reader has come to.
-ghost use Rattle.std.specs.Prelude.{◌≡◌, false, is_some};
-ghost use Rattle.netlist_text.specs.Words.{stray};
+// The words and signs of a line, one after another.
+ghost use Rattle.std.specs.Prelude.{◌≡◌, ◌≤◌, true, length};
+ghost use Rattle.std.specs.List.{list_all};
+ghost use Rattle.netlist_text.specs.Words.{line_byte};
 
+use crate::bytes::space_len;
+use crate::token::{Token, token_at};
+
+// A line whose bytes may all stand in one, with the place that its reader has come to.
 #[derive(Clone, Copy)]
 pub struct Scanner<'a> {
     pub(crate) line: &'a [u8],
     pub(crate) at: usize,
-    ghost clean: { is_some (stray 1 line.now) ≡ false },
+    ghost clean: { list_all line_byte line.now ≡ true },
+    ghost within: { at ≤ length line.now },
+}
+
+impl<'a> Iterator for Scanner<'a> {
+    ghost use Rattle.std.specs.Iterator.{YieldsFirstBy, item_count};
+    ghost use Rattle.scanner.specs.Scanned.{ahead, lexeme_of};
+
+    type Item = Token<'a>;
+
+    ghost next_gives = { YieldsFirstBy lexeme_of ahead };
+
+    ghost remaining = { item_count ahead };
+
+    fn next(&mut self) -> Option<Token<'a>> {
+        let line = self.line;
+        let front = self.at + space_len(&line[self.at..]);
+        let (token, behind) = token_at(line, front)?;
+        self.at = behind;
+        Some(token)
+    }
 }

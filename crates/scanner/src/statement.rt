@@ -14,10 +14,3 @@ pub enum Statement {
     // A gate with more than eight operands, which no kind takes.
     Crowded,
 }
-
-// The names in a line's brackets: the first eight, and whether there are more.
-#[derive(Clone, Copy)]
-pub struct Bracketed {
-    pub names: Operands<Name>,
-    pub crowded: bool,
-}

@@ -1,12 +1,11 @@
-use Rattle.std.proofs.Common.{sym, ◌∙◌}
-use Rattle.netlist_text.proofs.Lexing.{stray_more, stray_stop, stray_all}
+use Rattle.std.proofs.Common.{ap, ◌∙◌, sym, not, ◌+◌}
+use Rattle.std.specs.Option.{option_map}
+use Rattle.netlist_text.specs.Words.{line_byte}
+use Rattle.netlist_text.proofs.Positions.{position_from_next}
 use Rattle.scanner.proofs.bytes.check_bytes.Goals as goal
 
-pub returns-then-not-is_line_byte : goal.returns-then-not-is_line_byte
-returns-then-not-is_line_byte c = sym (stray_stop _ _ _ c.loop-i-test.true (sym c.if-not-is_line_byte.ensures)) ∙ c.loop-i.invariant
+pub returns-in-Some : goal.returns-in-Some
+returns-in-Some c = ap (option_map (λ i. i + 1)) c.in-Some.ensures.value ∙ sym (position_from_next (λ b. not (line_byte b)) 0 c.args.line.now)
 
-pub loop-i-preserved : goal.loop-i-preserved
-loop-i-preserved c = sym (stray_more _ _ _ c.loop-i-test.true (sym c.if-not-is_line_byte.ensures)) ∙ c.loop-i.invariant
-
-pub returns : goal.returns
-returns c = sym (stray_all _ _ _ c.loop-i-test.false) ∙ c.loop-i.invariant
+pub returns-in-None : goal.returns-in-None
+returns-in-None c = ap (option_map (λ i. i + 1)) c.in-None.ensures.value ∙ sym (position_from_next (λ b. not (line_byte b)) 0 c.args.line.now)

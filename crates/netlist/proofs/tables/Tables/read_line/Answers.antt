@@ -1,6 +1,6 @@
 use Rattle.std.proofs.Common.{◌≡◌, true, false, Some, None, sym, rules}
 use Rattle.netlist_text.specs.Words.{skipped, stray, lexemes}
-use Rattle.netlist_text.specs.Statements.{statement, input, output, gate}
+use Rattle.netlist_text.specs.Statements.{statement, input, gate}
 use Rattle.scanner.specs.Named.{name_of}
 use Rattle.scanner.specs.Parsed.{names_of, crowded}
 use Rattle.netlist.specs.Drafts.{draft_of}
@@ -14,14 +14,6 @@ returns-in-Input c =
     let e : stray 1 l ≡ None = search rules in
     let f : statement (lexemes l) ≡ Some (input (name_of c.in-Input.name)) = search rules in
     statement_read (draft_of c.args.self.now) c.args.number l s e c.admit_input.result (draft_of c.admit_input.new.self) (input (name_of c.in-Input.name)) f c.admit_input.ensures
-
-pub returns-in-Output : goal.returns-in-Output
-returns-in-Output c =
-    let l = c.args.line.now in
-    let s : skipped l ≡ false = search rules in
-    let e : stray 1 l ≡ None = search rules in
-    let f : statement (lexemes l) ≡ Some (output (name_of c.in-Output.name)) = search rules in
-    statement_read (draft_of c.args.self.now) c.args.number l s e c.admit_output.result (draft_of c.admit_output.new.self) (output (name_of c.in-Output.name)) f c.admit_output.ensures
 
 pub returns-in-Gate : goal.returns-in-Gate
 returns-in-Gate c =

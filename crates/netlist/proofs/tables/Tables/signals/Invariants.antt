@@ -1,5 +1,5 @@
 use Rattle.std.proofs.Common.{◌≡◌, map, length, drop}
-use Rattle.circuit.specs.Listed.{listed}
+use Rattle.inline_list.specs.Listed.{listed}
 use Rattle.netlist_text.specs.Netlists.{signals}
 use Rattle.scanner.specs.Named.{name_of}
 use Rattle.netlist.specs.Drafts.{draft_of}
