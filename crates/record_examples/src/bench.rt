@@ -8,10 +8,13 @@ ghost use Rattle.testlog.specs.Faults.{kept};
 
 use crate::shown::{print_bytes, print_test};
 use circuit::{Circuit, Gate, Kind, Operands, Signal};
+use refusal::Refusal;
 use std::alloc::{AllocError, Global};
 use std::io;
 use testlog::{RecordFault, TestTable, cut};
 
+// Kept: each method says that the circuit stays. A circuit that is lent could be changed for another just so, and as a parameter it would
+// have to be handed to each.
 #[derive(Drop)]
 pub struct Bench {
     circuit: Circuit,
@@ -49,7 +52,7 @@ impl Bench {
     fn print_answer(rt: &HostRuntime, answer: Result<(), RecordFault>) -> io::Result<()> {
         match answer {
             Ok(()) => print!(rt; " ."),
-            Err(fault) => print!(rt; " {}", fault.refusal().number),
+            Err(fault) => print!(rt; " {}", Refusal::from(fault).number),
         }
     }
 
@@ -61,7 +64,7 @@ impl Bench {
     {
         print_bytes(rt, bytes)?;
         if let Err(fault) = self.table.record(&self.circuit, bytes) {
-            let refusal = fault.refusal();
+            let refusal = Refusal::from(fault);
             return println!(rt; "{refusal}");
         }
         match self.table.tests().last() {
@@ -84,23 +87,19 @@ impl Bench {
     pub fn try_lengths(&mut self, rt: &HostRuntime, record: &[u8]) -> io::Result<()>
         ensures { self.new.circuit ≡ self.old.circuit }
     {
-        let mut bytes = Vec::from_slice(rt.alloc(), record)?;
+        let mut bytes = Vec::new(rt.alloc());
         print!(rt; "lengths")?;
-        for n in 0..record.len() {
-            self.table.clear();
-            self.answer(rt, &record[0..n])?;
-        }
-        for _ in 0..3 {
+        for byte in record.iter().chain(&[0, 0, 0]) {
             self.table.clear();
             self.answer(rt, bytes.as_slice())?;
-            bytes.push(0)?;
+            bytes.push(*byte)?;
         }
         println!(rt)
     }
 
     fn turn(bytes: &mut Vec<u8>, i: usize, mask: u8) {
-        if i < bytes.len() {
-            bytes[i] ^= mask;
+        if let Some(byte) = bytes.get_mut(i) {
+            *byte ^= mask;
         }
     }
 
@@ -110,6 +109,7 @@ impl Bench {
     {
         let mut bytes = Vec::from_slice(rt.alloc(), record)?;
         print!(rt; "bits")?;
+        // Kept: a byte is told by its place, since all the bytes are read while it is turned.
         for i in 0..record.len() {
             for mask in [1u8, 2, 4, 8, 16, 32, 64, 128] {
                 self.table.clear();
@@ -125,6 +125,7 @@ impl Bench {
     pub fn record_log(&mut self, rt: &HostRuntime, log: &[u8]) -> io::Result<()>
         ensures { self.new.circuit ≡ self.old.circuit }
     {
+        // Kept: a loop, since where a record ends is only known once the log is cut there.
         let mut rest = log;
         while !rest.is_empty() {
             let (piece, behind) = cut(&self.circuit, rest);

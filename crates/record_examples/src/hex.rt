@@ -1,6 +1,7 @@
 // Bytes written in hexadecimal.
 use std::alloc::{AllocError, Global};
 
+// Kept: `to_digit` takes capital letters too, and its number is wider than a byte, so each would have to be narrowed.
 fn digit(byte: u8) -> Option<u8> {
     match byte {
         b'0'..=b'9' => Some(byte - b'0'),

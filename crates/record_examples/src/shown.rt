@@ -9,16 +9,14 @@ fn symbol(value: bool) -> char {
 // The input values, then the outputs, with `-` where nothing was measured.
 pub fn print_test(rt: &HostRuntime, test: &Test) -> io::Result<()> {
     for value in test.inputs() {
-        let symbol = symbol(*value);
-        print!(rt; "{symbol}")?;
+        print!(rt; "{}", symbol(*value))?;
     }
     print!(rt; " ")?;
     for output in test.outputs() {
-        let symbol = match *output {
-            Some(value) => symbol(value),
-            None => '-',
-        };
-        print!(rt; "{symbol}")?;
+        match *output {
+            Some(value) => print!(rt; "{}", symbol(value))?,
+            None => print!(rt; "-")?,
+        }
     }
     println!(rt)
 }

@@ -2,7 +2,7 @@
 use Rattle.std.proofs.Common.{◌≡◌, ℕ, zero, suc, ◌+◌, ◌*◌, ◌≤◌, Bool, true, List, [], ◌∷◌, ◌++◌, length, take, drop, refl, ap, ◌∙◌, arith}
 use Rattle.std.proofs.lemmas.List.{take_at, drop_at, take-append-le, take-append-drop, length-append, append_assoc}
 use Rattle.std.proofs.lemmas.Bool.{and_parts, and_from}
-use Rattle.circuit.specs.Lists.{all}
+use Rattle.std.specs.List.{list_all}
 use Rattle.test_format.specs.Packing.{unpack, bytes_for, pack}
 use Rattle.test_format.specs.Records.{map_of, ones, record_length, map_group, input_group, value_group}
 use Rattle.test_format.proofs.Packed.{length_unpack, unpack_append, length_pack, take_unpack_pack}
@@ -11,15 +11,15 @@ use Rattle.test_format.proofs.Packed.{length_unpack, unpack_append, length_pack,
 pub front_bits : (n : ℕ) (g h : List ℕ) → n ≤ 8 * length g → take n (unpack (g ++ h)) ≡ take n (unpack g)
 front_bits n g h l = ap (take n) (unpack_append g h) ∙ take-append-le n (unpack g) (unpack h) (omega (arith, length_unpack g))
 
-pub all_take : {A : Type 0} (p : A → Bool) (n : ℕ) (xs : List A) → all p xs ≡ true → all p (take n xs) ≡ true
+pub all_take : {A : Type 0} (p : A → Bool) (n : ℕ) (xs : List A) → list_all p xs ≡ true → list_all p (take n xs) ≡ true
 all_take p zero xs a = refl
 all_take p (suc n) [] a = refl
-all_take p (suc n) (x ∷ xs) a = let h = and_parts (p x) (all p xs) a in and_from (p x) (all p (take n xs)) h.0 (all_take p n xs h.1)
+all_take p (suc n) (x ∷ xs) a = let h = and_parts (p x) (list_all p xs) a in and_from (p x) (list_all p (take n xs)) h.0 (all_take p n xs h.1)
 
-pub all_drop : {A : Type 0} (p : A → Bool) (n : ℕ) (xs : List A) → all p xs ≡ true → all p (drop n xs) ≡ true
+pub all_drop : {A : Type 0} (p : A → Bool) (n : ℕ) (xs : List A) → list_all p xs ≡ true → list_all p (drop n xs) ≡ true
 all_drop p zero xs a = a
 all_drop p (suc n) [] a = refl
-all_drop p (suc n) (x ∷ xs) a = all_drop p n xs (and_parts (p x) (all p xs) a).1
+all_drop p (suc n) (x ∷ xs) a = all_drop p n xs (and_parts (p x) (list_all p xs) a).1
 
 -- ── a map, inputs and what follows, packed ──
 pub map_of_packed : (ms : List Bool) (rest : List ℕ) → map_of (length ms) (pack ms ++ rest) ≡ ms

@@ -1,55 +1,29 @@
 -- Tests that are held, after a record, a change of an output, or a test struck.
-use Rattle.std.proofs.Common.{◌≡◌, ℕ, zero, suc, ◌+◌, ◌-◌, ◌<◌, ◌≤◌, Bool, true, false, ltb, ◌⊎◌, List, [], ◌∷◌, map, length, get_or, take, set, is_some, Some, None, Ok, Option, Result, sym, refl, ap, ◌∙◌, inl, inr, arith}
+use Rattle.std.proofs.Common.{◌≡◌, ℕ, zero, suc, ◌+◌, ◌-◌, ◌<◌, ◌≤◌, Bool, true, false, ltb, List, [], ◌∷◌, length, get_or, take, set, is_some, Some, None, Ok, Err, Option, Result, sym, refl, ap, ◌∙◌, arith}
 use Rattle.std.specs.List.{slice_get}
-use Rattle.std.specs.Option.{option_map}
 use Rattle.std.proofs.lemmas.List.{take_all, take_more}
-use Rattle.std.proofs.lemmas.Option.{slice_get-get_or, slice_get_past}
-use Rattle.std.proofs.lemmas.Bool.{lt-ltb, le-ltb, cond-true, cond-false}
+use Rattle.std.proofs.lemmas.Bool.{lt-ltb, cond-true, cond-false, false≢true}
 use Rattle.refusal.specs.declared.Refusal.{Refusal}
+use Rattle.refusal.specs.Asking.{numbered}
 use Rattle.circuit.specs.Circuits.{Circuit}
 use Rattle.circuit.specs.Tests.{Test}
-use Rattle.test_format.specs.Records.{refused, decoded, joined_by, recorded}
+use Rattle.test_format.specs.Records.{decoded, joined_by, recorded}
 use Rattle.test_format.specs.Amending.{reading, output_of, output_at, with_reading, replaced, amended_by, amended, struck, Struck}
 
 -- ── one more record, where n tests are held ──
-pub recorded_full : (c : Circuit) (ts : List Test) (bytes : List ℕ) (n : ℕ) → n ≡ length ts → 32 ≤ n → recorded c ts bytes ≡ refused 11
-recorded_full c ts bytes n e h = cond-false (ltb (length ts) 32) (joined_by ts (decoded c bytes)) (refused 11) (le-ltb (length ts) 32 (omega arith))
-
 pub recorded_joined : (c : Circuit) (ts : List Test) (bytes : List ℕ) (n : ℕ) (r : Result Test Refusal) → n ≡ length ts → n < 32 → r ≡ decoded c bytes → recorded c ts bytes ≡ joined_by ts r
-recorded_joined c ts bytes n r e h d = cond-true (ltb (length ts) 32) (joined_by ts (decoded c bytes)) (refused 11) (lt-ltb (length ts) 32 (omega arith)) ∙ ap (joined_by ts) (sym d)
+recorded_joined c ts bytes n r e h d = cond-true (ltb (length ts) 32) (joined_by ts (decoded c bytes)) (Err (numbered 11)) (lt-ltb (length ts) 32 (omega arith)) ∙ ap (joined_by ts) (sym d)
 
 -- ── places of lists ──
-pub nth_map : {A B : Type 0} (f : A → B) (xs : List A) (i : ℕ) → slice_get (map f xs) i ≡ option_map f (slice_get xs i)
-nth_map f [] i = refl
-nth_map f (x ∷ xs) zero = refl
-nth_map f (x ∷ xs) (suc i) = nth_map f xs i
+pub set_nowhere : {A : Type 0} (xs : List A) (i : ℕ) (x : A) → slice_get xs i ≡ None → set xs i x ≡ xs
+set_nowhere [] i x e = refl
+set_nowhere (y ∷ xs) zero x e = absurd (false≢true (sym (ap is_some e)))
+set_nowhere (y ∷ xs) (suc i) x e = ap (λ (l : List _). y ∷ l) (set_nowhere xs i x e)
 
 pub set_nth : {A : Type 0} (xs : List A) (i : ℕ) (x : A) → slice_get xs i ≡ Some x → set xs i x ≡ xs
 set_nth [] i x e = refl
 set_nth (y ∷ xs) zero x e = let same : x ≡ y = cc in ap (λ z. z ∷ xs) same
 set_nth (y ∷ xs) (suc i) x e = ap (λ (l : List _). y ∷ l) (set_nth xs i x e)
-
-pub take_of_set : {A : Type 0} (n : ℕ) (xs : List A) (i : ℕ) (x : A) → take n (set xs i x) ≡ set (take n xs) i x
-take_of_set zero [] i x = refl
-take_of_set zero (y ∷ xs) zero x = refl
-take_of_set zero (y ∷ xs) (suc i) x = refl
-take_of_set (suc n) [] i x = refl
-take_of_set (suc n) (y ∷ xs) zero x = refl
-take_of_set (suc n) (y ∷ xs) (suc i) x = ap (λ (l : List _). y ∷ l) (take_of_set n xs i x)
-
--- ── one output of one test ──
-pub no_output : (t : Test) (o : ℕ) → (o ≡ 0) ⊎ (length t.outputs < o) → is_some (output_of (Some t) o) ≡ false
-no_output t zero h = refl
-no_output t (suc o) (inl z) = absurd (omega arith)
-no_output t (suc o) (inr l) = ap is_some (slice_get_past t.outputs o (omega arith))
-
-pub an_output : (t : Test) (o : ℕ) → (o ≡ 0 → ⊥) → o ≤ length t.outputs → is_some (output_of (Some t) o) ≡ true
-an_output t zero h l = absurd (h refl)
-an_output t (suc o) h l = ap is_some (slice_get-get_or t.outputs o None (omega arith))
-
-pub reading_at : (t : Test) (o : ℕ) (v : Option Bool) → (o ≡ 0 → ⊥) → record { inputs = t.inputs; outputs = set t.outputs (o - 1) v } ≡ with_reading t o v
-reading_at t zero v h = absurd (h refl)
-reading_at t (suc o) v h = let e : suc o - 1 ≡ o = omega arith in ap (λ k. record { inputs = t.inputs; outputs = set t.outputs k v }) e
 
 -- ── one output of the tests held ──
 pub replaced_is : (ts : List Test) (k o : ℕ) (v : Option Bool) (t : Test) → slice_get ts k ≡ Some t → set ts k (with_reading t o v) ≡ replaced ts k o v
@@ -58,28 +32,20 @@ replaced_is [] k o v t e = refl
 replaced_is (u ∷ ts) zero o v t e = let same : t ≡ u = cc in ap (λ (w : Test). with_reading w o v ∷ ts) same
 replaced_is (u ∷ ts) (suc k) o v t e = ap (λ (l : List Test). u ∷ l) (replaced_is ts k o v t e)
 
-pub amended_nowhere : (ts : List Test) (k o n : ℕ) (v : Option Bool) → Some v ≡ reading n → length ts ≤ k → amended ts k o n ≡ refused 14
-amended_nowhere ts k o n v r h =
-    ap (amended_by ts k o) (sym r)
-    ∙ cond-false (is_some (output_at ts k o)) (Ok (replaced ts k o v)) (refused 14) (ap (λ (x : Option Test). is_some (output_of x o)) (slice_get_past ts k h))
-
-pub amended_no_output : (ts : List Test) (k o n : ℕ) (v : Option Bool) (t : Test) → Some v ≡ reading n → slice_get ts k ≡ Some t → false ≡ is_some (output_of (Some t) o) → amended ts k o n ≡ refused 14
+pub amended_no_output : (ts : List Test) (k o n : ℕ) (v : Option Bool) (t : Test) → Some v ≡ reading n → slice_get ts k ≡ Some t → false ≡ is_some (output_of (Some t) o) → amended ts k o n ≡ Err (numbered 14)
 amended_no_output ts k o n v t r e no_such =
     ap (amended_by ts k o) (sym r)
-    ∙ cond-false (is_some (output_at ts k o)) (Ok (replaced ts k o v)) (refused 14) (ap (λ (x : Option Test). is_some (output_of x o)) e ∙ sym no_such)
+    ∙ cond-false (is_some (output_at ts k o)) (Ok (replaced ts k o v)) (Err (numbered 14)) (ap (λ (x : Option Test). is_some (output_of x o)) e ∙ sym no_such)
 
 pub amended_to : (ts : List Test) (k o n : ℕ) (v : Option Bool) (t : Test) → Some v ≡ reading n → slice_get ts k ≡ Some t → true ≡ is_some (output_of (Some t) o) → amended ts k o n ≡ Ok (set ts k (with_reading t o v))
 amended_to ts k o n v t r e there =
     ap (amended_by ts k o) (sym r)
-    ∙ cond-true (is_some (output_at ts k o)) (Ok (replaced ts k o v)) (refused 14) (ap (λ (x : Option Test). is_some (output_of x o)) e ∙ sym there)
+    ∙ cond-true (is_some (output_at ts k o)) (Ok (replaced ts k o v)) (Err (numbered 14)) (ap (λ (x : Option Test). is_some (output_of x o)) e ∙ sym there)
     ∙ ap Ok (sym (replaced_is ts k o v t e))
 
 -- ── the last test ──
 pub struck_to : (ts : List Test) (n : ℕ) → n ≡ length ts → 0 < n → struck ts ≡ Ok (take (n - 1) ts)
-struck_to ts n e some = cond-true (ltb 0 (length ts)) (Ok (take (length ts - 1) ts)) (refused 15) (lt-ltb 0 (length ts) (omega arith)) ∙ ap (λ k. Ok (take (k - 1) ts)) (sym e)
-
-pub struck_none : (ts : List Test) (n : ℕ) → n ≡ length ts → n ≡ 0 → struck ts ≡ refused 15
-struck_none ts n e none = cond-false (ltb 0 (length ts)) (Ok (take (length ts - 1) ts)) (refused 15) (le-ltb 0 (length ts) (omega arith))
+struck_to ts n e some = cond-true (ltb 0 (length ts)) (Ok (take (length ts - 1) ts)) (Err (numbered 15)) (lt-ltb 0 (length ts) (omega arith)) ∙ ap (λ k. Ok (take (k - 1) ts)) (sym e)
 
 pub struck_one : (ts : List Test) (n : ℕ) → n ≡ length ts → 0 < n → Struck ts (take (n - 1) ts)
 struck_one [] n e some = absurd (omega arith)

@@ -8,12 +8,6 @@ ones_marks [] = refl
 ones_marks (None ∷ os) = omega (arith, ones_marks os)
 ones_marks (Some v ∷ os) = omega (arith, ones_marks os)
 
-pub ones_few : (ms : List Bool) → ones ms ≤ length ms
-unfolding ones
-ones_few [] = omega arith
-ones_few (true ∷ ms) = omega (arith, ones_few ms)
-ones_few (false ∷ ms) = omega (arith, ones_few ms)
-
 pub filled_measured : (os : List (Option Bool)) (rest : List Bool) → filled (map is_some os) (measured os ++ rest) ≡ os
 unfolding filled measured
 filled_measured [] rest = refl

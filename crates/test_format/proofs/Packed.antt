@@ -4,7 +4,7 @@ use Rattle.std.proofs.lemmas.List.{length-append, append_assoc, take_at, drop_at
 use Rattle.std.proofs.lemmas.Bool.{and_parts, and_from, lt-ltb, ltb-true, false≢true}
 use Rattle.std.proofs.lemmas.Bool.Decides.{eqb_tells}
 use Rattle.std.proofs.lemmas.Nat.{div_below}
-use Rattle.circuit.specs.Lists.{all}
+use Rattle.std.specs.List.{list_all}
 use Rattle.test_format.specs.Packing.{bits, number, unpack, bytes_for, pack_into, pack, is_byte}
 
 -- the front of a list of bits, so long, with 0 for the bits it lacks
@@ -23,16 +23,16 @@ take_pad k [] h = refl
 take_pad zero (b ∷ bs) h = absurd (omega arith)
 take_pad (suc k) (b ∷ bs) h = ap (λ (l : List Bool). b ∷ l) (take_pad k bs (omega arith))
 
-pub zeros_clear : (k : ℕ) → all not (pad k []) ≡ true
+pub zeros_clear : (k : ℕ) → list_all not (pad k []) ≡ true
 zeros_clear zero = refl
 zeros_clear (suc k) = zeros_clear k
 
-pub drop_pad_clear : (k : ℕ) (bs : List Bool) → all not (drop (length bs) (pad k bs)) ≡ true
+pub drop_pad_clear : (k : ℕ) (bs : List Bool) → list_all not (drop (length bs) (pad k bs)) ≡ true
 drop_pad_clear k [] = zeros_clear k
 drop_pad_clear zero (b ∷ bs) = refl
 drop_pad_clear (suc k) (b ∷ bs) = drop_pad_clear k bs
 
-pub pad_take : (n : ℕ) (bs : List Bool) → all not (drop n bs) ≡ true → pad (length bs) (take n bs) ≡ bs
+pub pad_take : (n : ℕ) (bs : List Bool) → list_all not (drop n bs) ≡ true → pad (length bs) (take n bs) ≡ bs
 pad_take zero [] h = refl
 pad_take zero (false ∷ bs) h = ap (λ (l : List Bool). false ∷ l) (pad_take zero bs h)
 pad_take zero (true ∷ bs) h = absurd (false≢true h)
@@ -132,11 +132,11 @@ pack_into_pad (suc k) bs =
     ∙ ap (λ n. n ∷ pack_into k (pad (8 * k) (drop 8 bs))) (number_pad 8 bs)
     ∙ ap (λ (l : List ℕ). number (take 8 bs) ∷ l) (pack_into_pad k (drop 8 bs))
 
-pack_into_unpack : (g : List ℕ) → all is_byte g ≡ true → pack_into (length g) (unpack g) ≡ g
+pack_into_unpack : (g : List ℕ) → list_all is_byte g ≡ true → pack_into (length g) (unpack g) ≡ g
 unfolding pack_into unpack
 pack_into_unpack [] h = refl
 pack_into_unpack (b ∷ g) h =
-    let p = and_parts (is_byte b) (all is_byte g) h in
+    let p = and_parts (is_byte b) (list_all is_byte g) h in
     let front = take_at (bits 8 b) (unpack g) 8 (length_bits 8 b) in
     let back = drop_at (bits 8 b) (unpack g) 8 (length_bits 8 b) in
     ap (λ (l : List Bool). number l ∷ pack_into (length g) (drop 8 (bits 8 b ++ unpack g))) front
@@ -154,15 +154,15 @@ enough n = omega arith
 pub take_unpack_pack : (bs : List Bool) → take (length bs) (unpack (pack bs)) ≡ bs
 take_unpack_pack bs = ap (take (length bs)) (unpack_pack_into (bytes_for (length bs)) bs) ∙ take_pad (8 * bytes_for (length bs)) bs (enough (length bs))
 
-pub unpack_pack_clear : (bs : List Bool) → all not (drop (length bs) (unpack (pack bs))) ≡ true
-unpack_pack_clear bs = ap (λ (l : List Bool). all not (drop (length bs) l)) (unpack_pack_into (bytes_for (length bs)) bs) ∙ drop_pad_clear (8 * bytes_for (length bs)) bs
+pub unpack_pack_clear : (bs : List Bool) → list_all not (drop (length bs) (unpack (pack bs))) ≡ true
+unpack_pack_clear bs = ap (λ (l : List Bool). list_all not (drop (length bs) l)) (unpack_pack_into (bytes_for (length bs)) bs) ∙ drop_pad_clear (8 * bytes_for (length bs)) bs
 
 -- the front bits of a group that has enough bytes are so many
 pub length_front : (n : ℕ) (g : List ℕ) → length g ≡ bytes_for n → length (take n (unpack g)) ≡ n
 length_front n g h = length-take-le n (unpack g) (omega (arith, length_unpack g))
 
 -- a group of the right length whose unused bits are 0 is packed from its bits
-pub clear_is_packed : (n : ℕ) (g : List ℕ) → all is_byte g ≡ true → length g ≡ bytes_for n → all not (drop n (unpack g)) ≡ true → g ≡ pack (take n (unpack g))
+pub clear_is_packed : (n : ℕ) (g : List ℕ) → list_all is_byte g ≡ true → length g ≡ bytes_for n → list_all not (drop n (unpack g)) ≡ true → g ≡ pack (take n (unpack g))
 clear_is_packed n g b h z =
     let u = unpack g in
     let k = bytes_for n in
@@ -174,6 +174,6 @@ clear_is_packed n g b h z =
     ∙ ap (λ m. pack_into (bytes_for m) (take n u)) (sym (length_front n g h))
 
 -- what holds of each byte by its place holds of all
-pub all_bytes : (bytes : List ℕ) → ((i : ℕ) → get_or bytes i 0 < 256) → all is_byte bytes ≡ true
+pub all_bytes : (bytes : List ℕ) → ((i : ℕ) → get_or bytes i 0 < 256) → list_all is_byte bytes ≡ true
 all_bytes [] h = refl
-all_bytes (b ∷ bytes) h = and_from (is_byte b) (all is_byte bytes) (lt-ltb b 256 (h zero)) (all_bytes bytes (λ i. h (suc i)))
+all_bytes (b ∷ bytes) h = and_from (is_byte b) (list_all is_byte bytes) (lt-ltb b 256 (h zero)) (all_bytes bytes (λ i. h (suc i)))

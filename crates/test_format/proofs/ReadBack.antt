@@ -1,26 +1,27 @@
 -- The record of a test is taken, and gives the test.
-use Rattle.std.proofs.Common.{◌≡◌, ℕ, Bool, true, eqb, List, [], ◌++◌, map, length, take, drop, is_some, Ok, Option, Result, sym, ap, ◌∙◌}
+use Rattle.std.proofs.Common.{◌≡◌, ℕ, Bool, true, eqb, List, [], ◌++◌, map, length, take, drop, is_some, Ok, Err, Option, Result, sym, ap, ◌∙◌}
 use Rattle.std.proofs.lemmas.List.{length-map, take-append-drop, append-nil}
 use Rattle.std.proofs.lemmas.Bool.{and_from, eq-eqb, cond-true}
 use Rattle.refusal.specs.declared.Refusal.{Refusal}
+use Rattle.refusal.specs.Asking.{numbered, ask}
 use Rattle.circuit.specs.Circuits.{Circuit}
 use Rattle.circuit.specs.Tests.{Test, FitsTest}
 use Rattle.test_format.specs.Packing.{unpack, pack}
-use Rattle.test_format.specs.Records.{measured, written, map_of, ones, record_length, map_group, input_group, value_group, clear, all_clear, filled, given, refused, ask}
+use Rattle.test_format.specs.Records.{measured, written, map_of, ones, record_length, map_group, input_group, value_group, clear, all_clear, filled, given}
 use Rattle.test_format.specs.Law.{RecordReadsBack}
 use Rattle.test_format.proofs.Packed.{take_unpack_pack, unpack_pack_clear}
 use Rattle.test_format.proofs.Marked.{ones_marks, filled_measured}
 use Rattle.test_format.proofs.Grouped.{map_of_packed, map_group_packed, input_group_packed, value_group_packed, required_packed}
 
-pub ask_so : {X : Type 0} (q : ℕ) (b : Bool) (r : Result X Refusal) → b ≡ true → ask q b r ≡ r
-ask_so q b r h = cond-true b r (refused q) h
+pub ask_so : {X : Type 0} (q : ℕ) (b : Bool) (r : Result X Refusal) → b ≡ true → ask (numbered q) b r ≡ r
+ask_so q b r h = cond-true b r (Err (numbered q)) h
 
 -- ── the record of a test, at its own numbers of inputs and outputs ──
 abbrev pub marks : Test → List Bool
 marks t = map is_some t.outputs
 
 abbrev decoded_at : ℕ → ℕ → List ℕ → Result Test Refusal
-decoded_at I O bytes = ask 12 (eqb (length bytes) (record_length I O bytes)) (ask 13 (all_clear I O bytes) (Ok (given I O bytes)))
+decoded_at I O bytes = ask (numbered 12) (eqb (length bytes) (record_length I O bytes)) (ask (numbered 13) (all_clear I O bytes) (Ok (given I O bytes)))
 
 pub written_clear : (t : Test) → all_clear (length t.inputs) (length (marks t)) (written t) ≡ true
 written_clear t =

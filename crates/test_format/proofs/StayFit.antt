@@ -4,9 +4,10 @@ use Rattle.std.specs.List.{AllByRecursion}
 use Rattle.std.proofs.ByRecursion.{All-push, All-take}
 use Rattle.std.proofs.lemmas.Bool.{eqb-true}
 use Rattle.refusal.specs.declared.Refusal.{Refusal}
+use Rattle.refusal.specs.Asking.{numbered, ask}
 use Rattle.circuit.specs.Circuits.{Circuit}
 use Rattle.circuit.specs.Tests.{Test, FitsTest}
-use Rattle.test_format.specs.Records.{record_length, all_clear, given, ask, decoded, joined_by}
+use Rattle.test_format.specs.Records.{record_length, all_clear, given, decoded, joined_by}
 use Rattle.test_format.specs.Amending.{reading, output_at, with_reading, replaced, amended_by}
 use Rattle.test_format.specs.Law.{TestsStayFit}
 use Rattle.test_format.proofs.Taken.{ask_taken, given_fits}
@@ -15,7 +16,7 @@ pub decoded_fits : (c : Circuit) (bytes : List ℕ) (t : Test) → decoded c byt
 decoded_fits c bytes t e =
     let I = c.inputs in
     let O = length c.outputs in
-    let p = ask_taken 12 (eqb (length bytes) (record_length I O bytes)) (ask 13 (all_clear I O bytes) (Ok (given I O bytes))) t e in
+    let p = ask_taken 12 (eqb (length bytes) (record_length I O bytes)) (ask (numbered 13) (all_clear I O bytes) (Ok (given I O bytes))) t e in
     let q = ask_taken 13 (all_clear I O bytes) (Ok (given I O bytes)) t p.1 in
     let long = eqb-true (length bytes) (record_length I O bytes) p.0 in
     let same : given I O bytes ≡ t = cc q.1 in

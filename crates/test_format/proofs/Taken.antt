@@ -3,16 +3,17 @@ use Rattle.std.proofs.Common.{◌≡◌, ℕ, ◌≤◌, Bool, true, false, ◌&
 use Rattle.std.proofs.lemmas.List.{length-take-le}
 use Rattle.std.proofs.lemmas.Bool.{and_parts, eqb-true}
 use Rattle.refusal.specs.declared.Refusal.{Refusal}
-use Rattle.circuit.specs.Lists.{all}
+use Rattle.refusal.specs.Asking.{numbered, ask}
+use Rattle.std.specs.List.{list_all}
 use Rattle.circuit.specs.Tests.{Test, FitsTest}
 use Rattle.test_format.specs.Packing.{unpack, bytes_for, pack, is_byte}
-use Rattle.test_format.specs.Records.{measured, written, map_of, ones, record_length, map_group, input_group, value_group, clear, all_clear, filled, given, ask}
+use Rattle.test_format.specs.Records.{measured, written, map_of, ones, record_length, map_group, input_group, value_group, clear, all_clear, filled, given}
 use Rattle.test_format.specs.Law.{TakenIsWritten}
 use Rattle.test_format.proofs.Packed.{length_unpack, length_front, clear_is_packed}
 use Rattle.test_format.proofs.Marked.{marks_filled, length_filled, measured_filled}
 use Rattle.test_format.proofs.Grouped.{front_bits, all_take, all_drop, groups_joined}
 
-pub ask_taken : {X : Type 0} (q : ℕ) (b : Bool) (r : Result X Refusal) (x : X) → ask q b r ≡ Ok x → (b ≡ true) × (r ≡ Ok x)
+pub ask_taken : {X : Type 0} (q : ℕ) (b : Bool) (r : Result X Refusal) (x : X) → ask (numbered q) b r ≡ Ok x → (b ≡ true) × (r ≡ Ok x)
 ask_taken q true r x e = (refl, e)
 ask_taken q false r x e = let z : ◌≡◌ {A = ℕ} 0 1 = cc in absurd (omega arith)
 
@@ -38,7 +39,7 @@ module _ (I O : ℕ) (bytes : List ℕ) (long : length bytes ≡ record_length I
   pub given_fits : (length (given I O bytes).inputs ≡ I) × (length (given I O bytes).outputs ≡ O)
   given_fits = (length_front I (input_group I O bytes) length_input_group, length_filled (map_of O bytes) (unpack (value_group I O bytes)) ∙ length_map_of)
 
-  pub given_written : all is_byte bytes ≡ true → all_clear I O bytes ≡ true → bytes ≡ written (given I O bytes)
+  pub given_written : list_all is_byte bytes ≡ true → all_clear I O bytes ≡ true → bytes ≡ written (given I O bytes)
   given_written b z =
       let ms = map_of O bytes in
       let mg = map_group O bytes in
@@ -62,7 +63,7 @@ pub taken_is_written : TakenIsWritten
 taken_is_written c bytes t b e =
     let I = c.inputs in
     let O = length c.outputs in
-    let p = ask_taken 12 (eqb (length bytes) (record_length I O bytes)) (ask 13 (all_clear I O bytes) (Ok (given I O bytes))) t e in
+    let p = ask_taken 12 (eqb (length bytes) (record_length I O bytes)) (ask (numbered 13) (all_clear I O bytes) (Ok (given I O bytes))) t e in
     let q = ask_taken 13 (all_clear I O bytes) (Ok (given I O bytes)) t p.1 in
     let long = eqb-true (length bytes) (record_length I O bytes) p.0 in
     let same : given I O bytes ≡ t = cc q.1 in

@@ -6,12 +6,12 @@
 --   Amended     this output is as handed in, and nothing else moved
 --   struck      the tests without the last, or the refusal of it
 --   Struck      the last test is no longer held
-use Rattle.std.specs.Prelude.{◌≡◌, ℕ, zero, suc, ◌-◌, Bool, true, false, List, [], ◌∷◌, ◌++◌, length, take, is_some, Some, None, Ok, Option, Result, ◌≢◌, nat_lt, slice_set}
+use Rattle.std.specs.Prelude.{◌≡◌, ℕ, zero, suc, ◌-◌, Bool, true, false, List, [], ◌∷◌, ◌++◌, length, take, is_some, Some, None, Ok, Err, Option, Result, ◌≢◌, nat_lt, slice_set}
 use Rattle.std.specs.List.{slice_get}
 use Rattle.std.specs.Option.{option_map}
 use Rattle.refusal.specs.declared.Refusal.{Refusal}
+use Rattle.refusal.specs.Asking.{numbered, ask}
 use Rattle.circuit.specs.Tests.{Test}
-use Rattle.test_format.specs.Records.{ask, refused}
 
 abbrev pub reading : ℕ → Option (Option Bool)
 reading zero = Some (Some false)
@@ -37,8 +37,8 @@ replaced (t ∷ ts) zero o v = with_reading t o v ∷ ts
 replaced (t ∷ ts) (suc k) o v = t ∷ replaced ts k o v
 
 abbrev pub amended_by : List Test → ℕ → ℕ → Option (Option Bool) → Result (List Test) Refusal
-amended_by ts k o None = refused 14
-amended_by ts k o (Some v) = ask 14 (is_some (output_at ts k o)) (Ok (replaced ts k o v))
+amended_by ts k o None = Err (numbered 14)
+amended_by ts k o (Some v) = ask (numbered 14) (is_some (output_at ts k o)) (Ok (replaced ts k o v))
 
 abbrev pub amended : List Test → ℕ → ℕ → ℕ → Result (List Test) Refusal
 amended ts k o n = amended_by ts k o (reading n)
@@ -49,7 +49,7 @@ pub record Amended (before after : List Test) (k o n : ℕ) : Type 0 where
   pub inputs : (j : ℕ) → option_map (λ t. t.inputs) (slice_get after j) ≡ option_map (λ t. t.inputs) (slice_get before j)
 
 abbrev pub struck : List Test → Result (List Test) Refusal
-struck ts = ask 15 (nat_lt 0 (length ts)) (Ok (take (length ts - 1) ts))
+struck ts = ask (numbered 15) (nat_lt 0 (length ts)) (Ok (take (length ts - 1) ts))
 
 pub record Struck (before after : List Test) : Type 0 where
   pub test : Test

@@ -8,13 +8,14 @@
 --   AmendsOne      amending changes the output named, to what was handed in, and nothing else
 --   StrikesLast    striking undoes the last record, whatever it was
 --   TestsStayFit   where the tests held are tests of the circuit, they are so after a record, an amendment or a strike
-use Rattle.std.specs.Prelude.{◌≡◌, ℕ, ◌+◌, ◌<◌, ◌≤◌, true, List, [], ◌∷◌, ◌++◌, map, length, Ok, slice_index_or}
+use Rattle.std.specs.Prelude.{◌≡◌, ℕ, ◌+◌, ◌<◌, ◌≤◌, true, List, [], ◌∷◌, ◌++◌, map, length, Ok, Err, slice_index_or}
 use Rattle.std.specs.List.{flat_map, AllByRecursion}
-use Rattle.circuit.specs.Lists.{all}
+use Rattle.std.specs.List.{list_all}
+use Rattle.refusal.specs.Asking.{numbered}
 use Rattle.circuit.specs.Circuits.{Circuit}
 use Rattle.circuit.specs.Tests.{Test, FitsTest}
 use Rattle.test_format.specs.Packing.{is_byte}
-use Rattle.test_format.specs.Records.{written, decoded, recorded, refused}
+use Rattle.test_format.specs.Records.{written, decoded, recorded}
 use Rattle.test_format.specs.Logs.{required, pieces}
 use Rattle.test_format.specs.Amending.{amended, Amended, struck}
 
@@ -22,7 +23,7 @@ abbrev pub RecordReadsBack : Type 0
 RecordReadsBack = (c : Circuit) (t : Test) → FitsTest c t → decoded c (written t) ≡ Ok t
 
 abbrev pub TakenIsWritten : Type 0
-TakenIsWritten = (c : Circuit) (bytes : List ℕ) (t : Test) → all is_byte bytes ≡ true → decoded c bytes ≡ Ok t → FitsTest c t × (bytes ≡ written t)
+TakenIsWritten = (c : Circuit) (bytes : List ℕ) (t : Test) → list_all is_byte bytes ≡ true → decoded c bytes ≡ Ok t → FitsTest c t × (bytes ≡ written t)
 
 -- so that a record takes at least one byte
 abbrev pub HasSignals : Circuit → Type 0
@@ -44,7 +45,7 @@ abbrev pub AmendsOne : Type 0
 AmendsOne = (ts us : List Test) (k o n : ℕ) → amended ts k o n ≡ Ok us → Amended ts us k o n
 
 abbrev pub StrikesLast : Type 0
-StrikesLast = ((ts : List Test) (t : Test) → struck (ts ++ t ∷ []) ≡ Ok ts) × (struck [] ≡ refused 15)
+StrikesLast = ((ts : List Test) (t : Test) → struck (ts ++ t ∷ []) ≡ Ok ts) × (struck [] ≡ Err (numbered 15))
 
 pub record StayFit (c : Circuit) (ts us : List Test) : Type 0 where
   pub after_record : (bytes : List ℕ) → recorded c ts bytes ≡ Ok us → AllByRecursion (FitsTest c) us

@@ -13,7 +13,8 @@
 --   Recorded        one test more is held: one of the circuit, that has these bytes for its record
 use Rattle.std.specs.Prelude.{◌≡◌, ℕ, ◌+◌, Bool, true, false, cond, not, ◌&&◌, List, [], ◌∷◌, ◌++◌, map, length, take, drop, is_some, Some, None, Ok, Err, Option, Result, ◌==◌, nat_lt, slice_index_or}
 use Rattle.refusal.specs.declared.Refusal.{Refusal}
-use Rattle.circuit.specs.Lists.{all}
+use Rattle.refusal.specs.Asking.{numbered, ask}
+use Rattle.std.specs.List.{list_all}
 use Rattle.circuit.specs.Circuits.{Circuit}
 use Rattle.circuit.specs.Tests.{Test, FitsTest}
 use Rattle.test_format.specs.Packing.{unpack, bytes_for, pack}
@@ -49,7 +50,7 @@ abbrev pub value_group : ℕ → ℕ → List ℕ → List ℕ
 value_group I O bytes = drop (bytes_for I) (drop (bytes_for O) bytes)
 
 abbrev pub clear : ℕ → List ℕ → Bool
-clear n group = all not (drop n (unpack group))
+clear n group = list_all not (drop n (unpack group))
 
 abbrev pub all_clear : ℕ → ℕ → List ℕ → Bool
 all_clear I O bytes = clear O (map_group O bytes) && (clear I (input_group I O bytes) && clear (ones (map_of O bytes)) (value_group I O bytes))
@@ -63,18 +64,10 @@ filled (true ∷ ms) vs = Some (slice_index_or vs 0 false) ∷ filled ms (drop 1
 abbrev pub given : ℕ → ℕ → List ℕ → Test
 given I O bytes = record { inputs = take I (unpack (input_group I O bytes)); outputs = filled (map_of O bytes) (unpack (value_group I O bytes)) }
 
--- refused by the question of this number; these questions have no line and no column
-abbrev pub refused : {X : Type 0} → ℕ → Result X Refusal
-refused q = Err (record { number = q; line = 0; column = 0 })
-
--- asked: is it so? If not, refused by this question
-abbrev pub ask : {X : Type 0} → ℕ → Bool → Result X Refusal → Result X Refusal
-ask q so r = cond so r (refused q)
-
 abbrev pub decoded : Circuit → List ℕ → Result Test Refusal
 decoded c bytes =
-    ask 12 (length bytes == record_length c.inputs (length c.outputs) bytes)
-    (ask 13 (all_clear c.inputs (length c.outputs) bytes) (Ok (given c.inputs (length c.outputs) bytes)))
+    ask (numbered 12) (length bytes == record_length c.inputs (length c.outputs) bytes)
+    (ask (numbered 13) (all_clear c.inputs (length c.outputs) bytes) (Ok (given c.inputs (length c.outputs) bytes)))
 
 -- the tests held, and the test that was read at their end
 abbrev pub joined_by : List Test → Result Test Refusal → Result (List Test) Refusal
@@ -82,7 +75,7 @@ joined_by ts (Ok t) = Ok (ts ++ t ∷ [])
 joined_by ts (Err r) = Err r
 
 abbrev pub recorded : Circuit → List Test → List ℕ → Result (List Test) Refusal
-recorded c ts bytes = ask 11 (nat_lt (length ts) 32) (joined_by ts (decoded c bytes))
+recorded c ts bytes = ask (numbered 11) (nat_lt (length ts) 32) (joined_by ts (decoded c bytes))
 
 pub record Recorded (c : Circuit) (before after : List Test) (bytes : List ℕ) : Type 0 where
   pub test : Test

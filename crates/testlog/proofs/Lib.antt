@@ -1,1 +1,2 @@
 mod TableItems
+mod Places

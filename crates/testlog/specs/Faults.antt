@@ -4,6 +4,7 @@
 --   kept         what is held after an answer: what it gave, or what was held before
 use Rattle.std.specs.Prelude.{ℕ, Ok, Err, Result}
 use Rattle.refusal.specs.declared.Refusal.{Refusal}
+use Rattle.refusal.specs.Asking.{numbered}
 use Rattle.circuit.specs.Tests.{Test}
 use Rattle.testlog.specs.declared.fault.RecordFault.{RecordFault}
 use Rattle.testlog.specs.declared.fault.RecordFault.TheVariants.{Full, Length, UnusedBits, Amendment, NoTest}
@@ -18,7 +19,7 @@ number Amendment = 14
 number NoTest = 15
 
 abbrev pub refusal_of : RecordFault → Refusal
-refusal_of f = record { number = number f; line = 0; column = 0 }
+refusal_of f = numbered (number f)
 
 abbrev pub read : Result HeldTest RecordFault → Result Test Refusal
 read (Ok t) = Ok (test_of t)

@@ -1,24 +1,22 @@
 // Bits in groups of bytes, lowest first.
-ghost use Rattle.std.specs.Prelude.{◌≡◌, ◌*◌, ◌≤◌, false, length, slice_index_or};
+ghost use Rattle.std.specs.Prelude.{◌≡◌, ◌≤◌, false, length, slice_index_or};
 ghost use Rattle.test_format.specs.Packing.{unpack, bytes_for};
 ghost use Rattle.test_format.specs.Records.{ones, map_of, clear};
 
 // How many whole bytes hold so many bits.
 pub(crate) fn bytes_for(bits: usize) -> usize
-    requires { bits ≤ 64 }
     ensures { result ≡ bytes_for bits }
 {
-    (bits + 7) / 8
+    bits.div_ceil(8)
 }
 
 // The bit at a place, or 0 where the bytes end before it.
 pub(crate) fn bit_at(bytes: &[u8], i: usize) -> bool
     ensures { result ≡ slice_index_or (unpack bytes.now) i false }
 {
-    match bytes.get(i / 8) {
-        Some(byte) => (*byte >> (i % 8)) & 1 == 1,
-        None => false,
-    }
+    bytes
+        .get(i / 8)
+        .is_some_and(|byte| (*byte >> (i % 8)) & 1 == 1)
 }
 
 // How many of the outputs a map marks.
@@ -26,13 +24,7 @@ pub(crate) fn marked(map: &[u8], outputs: usize) -> usize
     ensures value { result ≡ ones (map_of outputs map.now) }
     ensures bound { result ≤ outputs }
 {
-    let mut count = 0;
-    for i in 0..outputs {
-        if bit_at(map, i) {
-            count += 1;
-        }
-    }
-    count
+    (0..outputs).filter(|i| bit_at(map, *i)).count()
 }
 
 // Whether each bit of a group from this place on is 0.
@@ -40,10 +32,5 @@ pub(crate) fn is_clear(group: &[u8], from: usize) -> bool
     requires { length group.now ≤ 8 }
     ensures { result ≡ clear from group.now }
 {
-    for i in from..8 * group.len() {
-        if bit_at(group, i) {
-            return false;
-        }
-    }
-    true
+    (from..8 * group.len()).all(|i| !bit_at(group, i))
 }

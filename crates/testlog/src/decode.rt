@@ -1,4 +1,4 @@
-// Records decoded into tests, and what a test holds.
+// Records decoded into tests.
 ghost use Rattle.std.specs.Prelude.{◌≡◌, ◌≤◌};
 ghost use Rattle.circuit.specs.Held.{circuit_of};
 ghost use Rattle.test_format.specs.Records.{record_length, decoded};
@@ -40,25 +40,7 @@ impl Test {
         }
         Ok(Test {
             inputs: applied_inputs(applied, inputs),
-            input_count: inputs,
             outputs: measured_outputs(bytes, values, outputs),
-            output_count: outputs,
         })
-    }
-
-    // The value of each input, in order.
-    pub fn inputs(&self) -> &[bool]
-        ensures { result.now ≡ (test_of self.now).inputs }
-    {
-        let places = &self.inputs[..];
-        &places[0..self.input_count]
-    }
-
-    // At each output, in order, the value measured there, if one was.
-    pub fn outputs(&self) -> &[Option<bool>]
-        ensures { result.now ≡ (test_of self.now).outputs }
-    {
-        let places = &self.outputs[..];
-        &places[0..self.output_count]
     }
 }

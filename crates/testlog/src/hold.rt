@@ -16,14 +16,14 @@ use crate::test::Test;
 use circuit::Circuit;
 use std::alloc::{AllocError, Global};
 
-const TESTS: usize = 32;
-
 impl TestTable {
+    pub const MOST_TESTS: usize = 32;
+
     // No test, with room for all that may be held.
     pub fn new(heap: Global) -> Result<TestTable, AllocError>
         ensures { IfOk result (λ t. tests_of t ≡ []) }
     {
-        let tests = Vec::with_capacity(heap, TESTS)?;
+        let tests = Vec::with_capacity(heap, Self::MOST_TESTS)?;
         Ok(TestTable { tests })
     }
 
@@ -60,7 +60,7 @@ impl TestTable {
         ensures after { tests_of self.new ≡ kept (tests_of self.old) (recorded (circuit_of circuit.now) (tests_of self.old) bytes.now) }
         ensures change { OnOk result (Recorded (circuit_of circuit.now) (tests_of self.old) (tests_of self.new) bytes.now) }
     {
-        if self.tests.len() >= TESTS {
+        if self.tests.len() >= Self::MOST_TESTS {
             return Err(RecordFault::Full);
         }
         let test = Test::decode(circuit, bytes)?;
@@ -74,12 +74,11 @@ impl TestTable {
         ensures after { tests_of self.new ≡ kept (tests_of self.old) (amended (tests_of self.old) test output value) }
         ensures change { OnOk result (Amended (tests_of self.old) (tests_of self.new) test output value) }
     {
-        let Some(reading) = reading(value) else {
+        let reading = reading(value).ok_or(RecordFault::Amendment)?;
+        let Some(held) = self.tests.get_mut(test) else {
             return Err(RecordFault::Amendment);
         };
-        if test >= self.tests.len() || !self.tests[test].amend(output, reading) {
-            return Err(RecordFault::Amendment);
-        }
+        held.amend(output, reading)?;
         Ok(())
     }
 

@@ -1,27 +1,15 @@
-use Rattle.std.proofs.Common.{◌≡◌, ◌<◌, ◌≤◌, true, false, not, length, get_or, sym, ap, ◌∙◌, arith}
-use Rattle.circuit.proofs.Tested.{all_more, all_fails, all_done}
+use Rattle.std.proofs.Common.{◌-◌, ◌*◌, false, not, refl, length, get_or, ◌∙◌, rules, arith}
+use Rattle.std.proofs.lemmas.Iterator.{YieldsList-from_range}
+use Rattle.std.proofs.lemmas.Iterator.Search.{all_from_yields_List}
 use Rattle.test_format.specs.Packing.{unpack}
 use Rattle.test_format.proofs.Packed.{length_unpack}
+use Rattle.testlog.proofs.Places.{clear_from}
 use Rattle.testlog.proofs.bits.is_clear.Goals as goal
-
-pub returns-then-bit_at : goal.returns-then-bit_at
-returns-then-bit_at c =
-    let u = unpack c.args.group.now in
-    let i = c.loop-i.i in
-    let here : i < length u = omega (arith, length_unpack c.args.group.now) in
-    let set : not (get_or u i false) ≡ false = ap not (sym c.if-bit_at.ensures) in
-    sym (all_fails not u i false here set) ∙ c.loop-i.invariant
-
-pub loop-i-preserved : goal.loop-i-preserved
-loop-i-preserved c =
-    let u = unpack c.args.group.now in
-    let i = c.loop-i.i in
-    let here : i < length u = omega (arith, length_unpack c.args.group.now) in
-    let unset : not (get_or u i false) ≡ true = ap not (sym c.if-bit_at.ensures) in
-    sym (all_more not u i false here unset) ∙ c.loop-i.invariant
 
 pub returns : goal.returns
 returns c =
-    let u = unpack c.args.group.now in
-    let past : length u ≤ c.loop-i.i = omega (arith, length_unpack c.args.group.now) in
-    sym (all_done not u c.loop-i.i past) ∙ c.loop-i.invariant
+    let g = c.args.group.now in
+    let i = c.args.from in
+    let n = 8 * length g - i in
+    all_from_yields_List (λ k. not (get_or (unpack g) k false)) _ _ _ c.all.ensures.ran (YieldsList-from_range i (8 * length g) n (cc) refl) (λ x r q k. search rules)
+    ∙ clear_from (unpack g) i n (omega (arith, length_unpack g))

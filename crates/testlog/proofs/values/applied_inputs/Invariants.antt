@@ -1,6 +1,7 @@
-use Rattle.std.proofs.Common.{◌≡◌, length, take}
+use Rattle.std.proofs.Common.{◌≡◌, take}
+use Rattle.inline_list.specs.Listed.{listed}
 use Rattle.test_format.specs.Packing.{unpack}
 use Rattle.testlog.proofs.values.applied_inputs.Given as goal
 
 abbrev pub invariant-loop-i : goal.invariant-loop-i
-invariant-loop-i l = (take l.i l.inputs ≡ take l.i (unpack l.group)) × (length l.inputs ≡ 64)
+invariant-loop-i l = listed l.inputs ≡ take l.i (unpack l.group)

@@ -1,41 +1,20 @@
-use Rattle.std.proofs.Common.{◌≡◌, map, length, is_err, Err, vec_items, sym, ap, ◌∙◌, arith}
-use Rattle.std.specs.Option.{option_map}
+use Rattle.std.proofs.Common.{◌≡◌, map, length, vec_items, sym, ap, ◌∙◌, arith}
 use Rattle.std.specs.Result.{result_err}
 use Rattle.std.proofs.lemmas.List.{length-map, map_push}
-use Rattle.std.proofs.lemmas.Result.{err_from_is_err_and, IfOk-from_err}
 use Rattle.circuit.specs.Held.{circuit_of}
-use Rattle.test_format.specs.Records.{joined_by}
 use Rattle.test_format.proofs.Packed.{all_bytes}
 use Rattle.test_format.proofs.Taken.{taken_is_written}
-use Rattle.test_format.proofs.Holding.{recorded_full, recorded_joined}
-use Rattle.testlog.specs.declared.fault.RecordFault.{RecordFault}
+use Rattle.test_format.proofs.Holding.{recorded_joined}
 use Rattle.testlog.specs.Held.{test_of, tests_of}
-use Rattle.testlog.specs.Faults.{refusal_of, kept}
+use Rattle.testlog.specs.Faults.{kept}
 use Rattle.testlog.proofs.table.TestTable.record.Goals as goal
-
-pub returns-then-len-ge-TESTS : goal.returns-then-len-ge-TESTS
-returns-then-len-ge-TESTS c =
-    let v = c.args.self.now.tests in
-    let ts = tests_of c.args.self.now in
-    let many : c.len.result ≡ length ts = c.len.ensures ∙ v.ok.0 ∙ sym (length-map (vec_items v) test_of) in
-    let full = recorded_full (circuit_of c.args.circuit.now) ts c.args.bytes.now c.len.result many (omega (arith, c.if-len-ge-TESTS.true)) in
-    record { refused = sym (ap result_err full); after = sym (ap (kept ts) full); change = tt }
-
-pub returns-in_err-test : goal.returns-in_err-test
-returns-in_err-test c =
-    let v = c.args.self.now.tests in
-    let ts = tests_of c.args.self.now in
-    let many : c.len.result ≡ length ts = c.len.ensures ∙ v.ok.0 ∙ sym (length-map (vec_items v) test_of) in
-    let bad = recorded_joined (circuit_of c.args.circuit.now) ts c.args.bytes.now c.len.result _ many (omega (arith, c.if-len-ge-TESTS.false)) c.in_err-test.ensures in
-    let p = err_from_is_err_and c.from_residual.result c.from_residual.ensures.1 in
-    record { refused = ap (λ r. option_map refusal_of (result_err r)) p.1 ∙ ap (λ (f : RecordFault). result_err (joined_by ts (Err (refusal_of f)))) p.2 ∙ sym (ap result_err bad); after = sym (ap (kept ts) bad); change = IfOk-from_err c.from_residual.result _ (ap is_err p.1) }
 
 pub returns : goal.returns
 returns c =
     let v = c.args.self.now.tests in
     let ts = tests_of c.args.self.now in
     let many : c.len.result ≡ length ts = c.len.ensures ∙ v.ok.0 ∙ sym (length-map (vec_items v) test_of) in
-    let good = recorded_joined (circuit_of c.args.circuit.now) ts c.args.bytes.now c.len.result _ many (omega (arith, c.if-len-ge-TESTS.false)) c.in_ok-test.ensures in
+    let good = recorded_joined (circuit_of c.args.circuit.now) ts c.args.bytes.now c.len.result _ many (omega (arith, c.if-len-ge-MOST_TESTS.false)) c.in_ok-test.ensures in
     let last = ap (map test_of) c.push_reserved.ensures.items ∙ map_push test_of (vec_items v) c.in_ok-test.test in
     let law = taken_is_written (circuit_of c.args.circuit.now) c.args.bytes.now (test_of c.in_ok-test.test) (all_bytes c.args.bytes.now (λ i. (c.type_inv.bytes i).fits)) (sym c.in_ok-test.ensures) in
     record {

@@ -3,18 +3,10 @@ use Rattle.std.specs.Result.{result_err}
 use Rattle.std.proofs.lemmas.List.{length-map, take-map}
 use Rattle.circuit.specs.Tests.{Test}
 use Rattle.test_format.specs.Amending.{struck, Struck}
-use Rattle.test_format.proofs.Holding.{struck_none, struck_to, struck_one}
+use Rattle.test_format.proofs.Holding.{struck_to, struck_one}
 use Rattle.testlog.specs.Held.{test_of, tests_of}
 use Rattle.testlog.specs.Faults.{kept}
 use Rattle.testlog.proofs.table.TestTable.strike.Goals as goal
-
-pub returns-then-held-eq0 : goal.returns-then-held-eq0
-returns-then-held-eq0 c =
-    let v = c.args.self.now.tests in
-    let ts = tests_of c.args.self.now in
-    let many : c.len-held.result ≡ length ts = c.len-held.ensures ∙ v.ok.0 ∙ sym (length-map (vec_items v) test_of) in
-    let none = struck_none ts c.len-held.result many c.if-held-eq0.true in
-    record { refused = sym (ap result_err none); after = sym (ap (kept ts) none); change = tt }
 
 pub returns : goal.returns
 returns c =
