@@ -5,7 +5,7 @@ use Rattle.std.proofs.lemmas.Bool.{and_parts, leb-true, cases_eq}
 use Rattle.circuit.specs.declared.gate.Signal.{Signal}
 use Rattle.circuit.specs.declared.gate.Signal.TheVariants as signal
 use Rattle.circuit.specs.Kinds.{gives}
-use Rattle.circuit.specs.Lists.{all}
+use Rattle.std.specs.List.{list_all}
 use Rattle.circuit.specs.Circuits.{Gate, there, fits, wired}
 use Rattle.diagnosis.specs.Sets.{Marks}
 use Rattle.diagnosis.specs.Explains.{Values, value, gate_value, simulate}
@@ -18,7 +18,7 @@ value_front I m inputs vs us same (signal.Input i) t = refl
 value_front I m inputs vs us same (signal.Gate zero) t = refl
 value_front I m inputs vs us same (signal.Gate (suc g)) t = same g (leb-true (suc g) m (and_parts (leb 1 (suc g)) _ t).1)
 
-pub values_front : (I m : ℕ) (inputs vs us : List Bool) → ((j : ℕ) → j < m → get_or vs j false ≡ get_or us j false) → (os : List Signal) → all (there I m) os ≡ true → map (value inputs vs) os ≡ map (value inputs us) os
+pub values_front : (I m : ℕ) (inputs vs us : List Bool) → ((j : ℕ) → j < m → get_or vs j false ≡ get_or us j false) → (os : List Signal) → list_all (there I m) os ≡ true → map (value inputs vs) os ≡ map (value inputs us) os
 values_front I m inputs vs us same [] t = refl
 values_front I m inputs vs us same (o ∷ os) t =
     let first = value_front I m inputs vs us same o (and_parts (there I m o) _ t).0 in
@@ -26,7 +26,7 @@ values_front I m inputs vs us same (o ∷ os) t =
     λ i. first i ∷ rest i
 
 gate_value_front : (I m : ℕ) (s : Marks) (w : Values) (inputs vs us : List Bool) (n : ℕ) → ((j : ℕ) → j < m → get_or vs j false ≡ get_or us j false) → (g : Gate) → fits I m g ≡ true → gate_value s w inputs n vs g ≡ gate_value s w inputs n us g
-gate_value_front I m s w inputs vs us n same g f = ap (λ os. cond (s n) (w n) (gives g.kind os)) (values_front I m inputs vs us same g.operands (and_parts _ (all (there I m) g.operands) f).1)
+gate_value_front I m s w inputs vs us n same g f = ap (λ os. cond (s n) (w n) (gives g.kind os)) (values_front I m inputs vs us same g.operands (and_parts _ (list_all (there I m) g.operands) f).1)
 
 module _ (I : ℕ) (s : Marks) (w : Values) (inputs : List Bool) where
   -- a gate that comes after n others, and after some more, has its own value by the values at the end
@@ -50,8 +50,8 @@ module _ (I : ℕ) (s : Marks) (w : Values) (inputs : List Bool) where
       → (us : List Bool) → length us ≡ n + length gs → ((j : ℕ) → j < n → get_or vs j false ≡ get_or us j false)
       → ((before after : List Gate) (g : Gate) → before ++ g ∷ after ≡ gs → (k : ℕ) → k ≡ n + length before → get_or us k false ≡ gate_value s w inputs (suc k) us g)
       → us ≡ simulate s w inputs (suc n) vs gs
-  own_simulated n vs len [] f us all front own = ext_get_or false us vs (omega arith) (λ j lt. sym (front j (omega arith)))
-  own_simulated n vs len (g ∷ gs) f us all front own =
+  own_simulated n vs len [] f us list_all front own = ext_get_or false us vs (omega arith) (λ j lt. sym (front j (omega arith)))
+  own_simulated n vs len (g ∷ gs) f us list_all front own =
       let v : Bool = gate_value s w inputs (suc n) vs g in
       let here : get_or us n false ≡ v = own [] gs g refl n (omega arith) ∙ sym (gate_value_front I n s w inputs vs us (suc n) front g (and_parts (fits I n g) _ f).0) in
       own_simulated (suc n) (vs ++ v ∷ []) (omega (arith, length_push vs v)) gs (and_parts (fits I n g) _ f).1 us (omega arith)

@@ -2,7 +2,7 @@
 use Rattle.std.proofs.Common.{◌≡◌, ℕ, zero, suc, ◌≤◌, Bool, true, not, ◌↔◌, List, ◌∷◌, ◌++◌, length, sym, refl, ◌∙◌, subst, inl, ⊎_elim, arith}
 use mathlib.Core.Bool.{false≢true}
 use Rattle.std.proofs.lemmas.Bool.{cases_Bool, and_parts, and_from, not-true, not_from_false}
-use Rattle.circuit.specs.Lists.{any}
+use Rattle.std.specs.List.{list_any}
 use Rattle.diagnosis.specs.Sets.{IsSet, Within}
 use Rattle.diagnosis.specs.Explains.{ExplainsSet}
 use Rattle.diagnosis.specs.Order.{InOrder}
@@ -48,7 +48,7 @@ module _ (n : ℕ) (Explaining : List ℕ → Type 0) (explaining : List ℕ →
       let (R, r, w, m) = contains_minimal_of k T (omega arith) t ((decides T).0 y) in
       (R, r, λ g q. p.0 g (w g q), m))
       (λ none. (S, s, λ g m. m, (x, λ T t p y. false≢true (sym none ∙ any_from explaining (proper_subsets S) T (proper_tried n S T s t p) ((decides T).1 y)))))
-      (cases_Bool (any explaining (proper_subsets S)))
+      (cases_Bool (list_any explaining (proper_subsets S)))
 
   pub contains_minimal : (S : List ℕ) → IsSet n S → Explaining S → (T : List ℕ) × IsSet n T × Within T S × Minimal n Explaining T
   contains_minimal S s x = contains_minimal_of (length S) S (omega arith) s x

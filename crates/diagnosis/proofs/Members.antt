@@ -2,7 +2,7 @@
 use Rattle.std.proofs.Common.{◌≡◌, Bool, true, false, cond, ◌⊎◌, List, [], ◌∷◌, ◌++◌, map, filter, sym, refl, ap, ◌∙◌, subst, inl, inr, ⊎_elim}
 use mathlib.Core.Bool.{false≢true}
 use Rattle.std.proofs.lemmas.Bool.{cases_Bool, cond-true, cond-false, or_cases, or_left, or_right, and_parts, and_from}
-use Rattle.circuit.specs.Lists.{all, any}
+use Rattle.std.specs.List.{list_all, list_any}
 use Rattle.diagnosis.specs.Order.{In}
 
 -- ── joined ──
@@ -51,18 +51,18 @@ in_kept {A} p (y ∷ xs) x h e =
     later r k false = k
 
 -- ── all and any ──
-pub all_at : {A : Type 0} (p : A → Bool) (xs : List A) (x : A) → all p xs ≡ true → In x xs → p x ≡ true
+pub all_at : {A : Type 0} (p : A → Bool) (xs : List A) (x : A) → list_all p xs ≡ true → In x xs → p x ≡ true
 all_at p [] x e h = absurd h
 all_at p (y ∷ xs) x e h = ⊎_elim (λ i. ap p i ∙ (and_parts _ _ e).0) (λ r. all_at p xs x (and_parts (p y) _ e).1 r) h
 
-pub all_from : {A : Type 0} (p : A → Bool) (xs : List A) → ((x : A) → In x xs → p x ≡ true) → all p xs ≡ true
+pub all_from : {A : Type 0} (p : A → Bool) (xs : List A) → ((x : A) → In x xs → p x ≡ true) → list_all p xs ≡ true
 all_from p [] f = refl
 all_from p (y ∷ xs) f = and_from _ _ (f y (inl refl)) (all_from p xs (λ x h. f x (inr h)))
 
-pub any_at : {A : Type 0} (p : A → Bool) (xs : List A) → any p xs ≡ true → (x : A) × In x xs × (p x ≡ true)
+pub any_at : {A : Type 0} (p : A → Bool) (xs : List A) → list_any p xs ≡ true → (x : A) × In x xs × (p x ≡ true)
 any_at p [] e = absurd (false≢true e)
 any_at p (x ∷ xs) e = ⊎_elim (λ h. (x, inl refl, h)) (λ h. let (y, i, f) = any_at p xs h in (y, inr i, f)) (or_cases (p x) _ e)
 
-pub any_from : {A : Type 0} (p : A → Bool) (xs : List A) (x : A) → In x xs → p x ≡ true → any p xs ≡ true
+pub any_from : {A : Type 0} (p : A → Bool) (xs : List A) (x : A) → In x xs → p x ≡ true → list_any p xs ≡ true
 any_from p [] x h e = absurd h
 any_from p (y ∷ xs) x h e = ⊎_elim (λ i. or_left _ _ (ap p (sym i) ∙ e)) (λ r. or_right (p y) _ (any_from p xs x r e)) h

@@ -11,7 +11,7 @@
 --   minimal_sets     the minimal ones of at most N
 --   full_list        the full list of a case
 use Rattle.std.specs.Prelude.{ℕ, zero, suc, Bool, true, false, cond, not, ◌&&◌, List, [], ◌∷◌, ◌++◌, map, length, filter, ◌==◌}
-use Rattle.circuit.specs.Lists.{all, any}
+use Rattle.std.specs.List.{list_all, list_any}
 use Rattle.circuit.specs.Circuits.{Circuit}
 use Rattle.circuit.specs.Tests.{Test}
 use Rattle.diagnosis.specs.Sets.{member}
@@ -25,10 +25,10 @@ choices [] = (λ _. false) ∷ []
 choices (x ∷ S) = map (force x false) (choices S) ++ map (force x true) (choices S)
 
 abbrev pub explains : Circuit → List ℕ → Test → Bool
-explains c S t = any (λ w. brings_out c (member S) w t) (choices S)
+explains c S t = list_any (λ w. brings_out c (member S) w t) (choices S)
 
 abbrev pub explains_case : Circuit → List Test → List ℕ → Bool
-explains_case c ts S = all (explains c S) ts
+explains_case c ts S = list_all (explains c S) ts
 
 abbrev pub subsets : List ℕ → List (List ℕ)
 subsets [] = [] ∷ []
@@ -39,7 +39,7 @@ proper_subsets [] = []
 proper_subsets (x ∷ S) = map (λ T. x ∷ T) (proper_subsets S) ++ subsets S
 
 abbrev pub minimal : (List ℕ → Bool) → List ℕ → Bool
-minimal explaining S = explaining S && all (λ T. not (explaining T)) (proper_subsets S)
+minimal explaining S = explaining S && list_all (λ T. not (explaining T)) (proper_subsets S)
 
 abbrev pub choose : ℕ → ℕ → ℕ → List (List ℕ)
 choose a m zero = [] ∷ []

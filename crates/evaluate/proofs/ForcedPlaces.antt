@@ -1,15 +1,21 @@
--- Looking through forced values for a gate's number, at place k.
-use Rattle.std.proofs.Common.{◌≡◌, ℕ, ◌+◌, ◌<◌, cond, eqb, List, length, get_or, drop, Some, sym, ap, ◌∙◌}
-use Rattle.std.proofs.lemmas.List.{at_drop_more}
-use Rattle.std.proofs.lemmas.Bool.{cond-true, cond-false, eq-eqb, ne_eqb}
+-- The value found among those forced is the one forced on the gate.
+use Rattle.std.proofs.Common.{◌≡◌, ℕ, Bool, true, false, cond, eqb, List, [], ◌∷◌, Some, None, Option, refl, ap, Bor, MatchOption, IsSomeAnd}
+use Rattle.std.specs.List.{find}
+use Rattle.std.specs.Option.{option_map}
 use Rattle.evaluate.specs.declared.forced.Forced.{Forced}
 use Rattle.evaluate.specs.Forced.{forced_at}
 
-forced_next : {L : Type 0} (fs : List (Forced L)) (k n : ℕ) (f : Forced L) → k < length fs → f ≡ get_or fs k f → forced_at (drop k fs) n ≡ cond (eqb n f.gate) (Some f.value) (forced_at (drop (k + 1) fs) n)
-forced_next fs k n f lt is = at_drop_more (λ l. forced_at l n) fs k f lt ∙ ap (λ x. cond (eqb n x.gate) (Some x.value) (forced_at (drop (k + 1) fs) n)) (sym is)
+first : {L : Type 0} (f : Forced L) (b : Bool) (found : Option (Forced L)) (later : Option L) → option_map (λ x. x.value) found ≡ later → option_map (λ x. x.value) (cond b (Some f) found) ≡ cond b (Some f.value) later
+first f true found later e = refl
+first f false found later e = e
 
-pub forced_here : {L : Type 0} (fs : List (Forced L)) (k n : ℕ) (f : Forced L) → k < length fs → f ≡ get_or fs k f → n ≡ f.gate → forced_at (drop k fs) n ≡ Some f.value
-forced_here fs k n f lt is same = forced_next fs k n f lt is ∙ cond-true (eqb n f.gate) (Some f.value) (forced_at (drop (k + 1) fs) n) (eq-eqb n f.gate same)
+pub value_found : {L : Type 0} (fs : List (Forced L)) (n : ℕ) → option_map (λ f. f.value) (find (λ f. eqb n f.gate) fs) ≡ forced_at fs n
+value_found [] n = refl
+value_found (f ∷ fs) n = first f (eqb n f.gate) _ _ (value_found fs n)
 
-pub forced_later : {L : Type 0} (fs : List (Forced L)) (k n : ℕ) (f : Forced L) → k < length fs → f ≡ get_or fs k f → (n ≡ f.gate → ⊥) → forced_at (drop k fs) n ≡ forced_at (drop (k + 1) fs) n
-forced_later fs k n f lt is other = forced_next fs k n f lt is ∙ cond-false (eqb n f.gate) (Some f.value) (forced_at (drop (k + 1) fs) n) (ne_eqb n f.gate other)
+-- what a call at the value behind a reference gives, if there is one
+pub mapped : {X Y : Type 0} (f : X → Y) (found : Option (Bor X)) (r : Option Y) (P : Bor X → Y → Type 0) → MatchOption found (r ≡ None) (λ x. IsSomeAnd r (P x)) → ((x : Bor X) (y : Y) → P x y → y ≡ f x.now)
+    → r ≡ option_map f (option_map (λ x. x.now) found)
+mapped f None r P h w = h
+mapped f (Some x) (Some y) P h w = ap Some (w x y h)
+mapped f (Some x) None P h w = absurd h

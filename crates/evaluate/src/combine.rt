@@ -29,7 +29,7 @@ impl Connective {
     }
 
     pub(crate) fn join<L: Logic>(self, a: L, b: L) -> L
-        ensures { (i : ℕ) → i < L.Logic.lanes → Follows2 (joins self) (L.Logic.stands a i) (L.Logic.stands b i) (L.Logic.stands result i) }
+        ensures { (i : ℕ) → i < L.Logic.LANES → Follows2 (joins self) (L.Logic.stands a i) (L.Logic.stands b i) (L.Logic.stands result i) }
     {
         match self {
             Connective::And => a.and(b),

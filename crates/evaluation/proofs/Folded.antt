@@ -1,7 +1,7 @@
 -- Combining the operands one after another gives the image of the gate's whole function.
 use Rattle.std.proofs.Common.{◌≡◌, Bool, true, false, cond, not, ◌&&◌, ◌||◌, List, [], ◌∷◌, sym, refl, ap, ◌∙◌}
 use Rattle.circuit.specs.Kinds.{odd}
-use Rattle.circuit.specs.Lists.{all, any}
+use Rattle.std.specs.List.{list_all, list_any}
 use Rattle.signal_value.specs.Possible.{Possible, only, both, either, image, image2}
 use Rattle.signal_value.specs.Law.{xor}
 use Rattle.evaluation.specs.Gates.{image_of}
@@ -84,22 +84,22 @@ image_last k h (both ∷ Ps) =
     ∙ (λ i. either (image_last k (λ bs. h (false ∷ bs)) Ps i) (image_last k (λ bs. h (true ∷ bs)) Ps i))
 
 -- ── bits combined from the left are all of them, some of them, or an odd number of them ──
-and_all : (a : Bool) (bs : List Bool) → combined ◌&&◌ a bs ≡ (a && all (λ b. b) bs)
+and_all : (a : Bool) (bs : List Bool) → combined ◌&&◌ a bs ≡ (a && list_all (λ b. b) bs)
 and_all true [] = refl
 and_all false [] = refl
 and_all true (b ∷ bs) = and_all b bs
 and_all false (b ∷ bs) = and_all false bs
 
-pub combined_and : (bs : List Bool) → combined ◌&&◌ true bs ≡ all (λ b. b) bs
+pub combined_and : (bs : List Bool) → combined ◌&&◌ true bs ≡ list_all (λ b. b) bs
 combined_and bs = and_all true bs
 
-or_any : (a : Bool) (bs : List Bool) → combined ◌||◌ a bs ≡ (a || any (λ b. b) bs)
+or_any : (a : Bool) (bs : List Bool) → combined ◌||◌ a bs ≡ (a || list_any (λ b. b) bs)
 or_any true [] = refl
 or_any false [] = refl
 or_any true (b ∷ bs) = or_any true bs
 or_any false (b ∷ bs) = or_any b bs
 
-pub combined_or : (bs : List Bool) → combined ◌||◌ false bs ≡ any (λ b. b) bs
+pub combined_or : (bs : List Bool) → combined ◌||◌ false bs ≡ list_any (λ b. b) bs
 combined_or bs = or_any false bs
 
 xor_odd : (a : Bool) (bs : List Bool) → combined xor a bs ≡ cond a (not (odd bs)) (odd bs)

@@ -7,46 +7,36 @@ mod patterns;
 
 use circuit::Circuit;
 use evaluate::{Forced, evaluate};
+use inline_list::InlineList;
 use network::network;
-use patterns::{INPUTS, bits, words};
-use signal_value::Word;
+use patterns::{TESTS, bits, words};
+use signal_value::{Logic, Word};
 use std::time::Instant;
 use std::{env, io};
 
-const GATES: usize = 256;
-
-const TESTS: u32 = 32;
-
 const ROUNDS: u32 = 1000;
 
-fn with_words(circuit: &Circuit, inputs: &[Word; INPUTS]) -> [Word; 256] {
-    let unforced: &[Forced<Word>] = &[];
-    evaluate(circuit, &inputs[..], unforced)
-}
-
-fn with_bits(circuit: &Circuit, inputs: &[bool; INPUTS]) -> [bool; 256] {
-    let unforced: &[Forced<bool>] = &[];
-    evaluate(circuit, &inputs[..], unforced)
+// The values of the gates, with none forced.
+fn values<L: Logic>(circuit: &Circuit, inputs: &[L]) -> InlineList<L, 256> {
+    let unforced: [Forced<L>; 0] = [];
+    evaluate(circuit, inputs, &unforced)
 }
 
 // How many gates have another value in the test's lane than by the bit.
-fn differences(circuit: &Circuit, all: &[Word; 256], test: u32) -> usize {
-    let own = with_bits(circuit, &bits(test, 0));
-    let mut found = 0usize;
-    for g in 0..GATES {
-        if (all[g].0.wrapping_shr(test) % 2 == 1) != own[g] {
-            found = found.saturating_add(1);
-        }
-    }
-    found
+fn differences(circuit: &Circuit, all: &[Word], test: u32) -> usize {
+    let own = values(circuit, &bits(test, 0));
+    let pairs = all.iter().zip(own.as_slice());
+    pairs
+        .filter(|(word, bit)| (word.0.wrapping_shr(test) % 2 == 1) != **bit)
+        .count()
 }
 
 fn compare(rt: &HostRuntime, circuit: &Circuit) -> io::Result<()> {
-    let all = with_words(circuit, &words(0));
-    let mut found = 0usize;
-    for test in 0..TESTS {
-        found = found.saturating_add(differences(circuit, &all, test));
-    }
+    let all = values(circuit, &words(0));
+    let all = all.as_slice();
+    let found = (0..TESTS).fold(0usize, |found, test| {
+        found.saturating_add(differences(circuit, all, test))
+    });
     println!(rt; "256 gates, 32 tests: {found} differences")
 }
 
@@ -54,13 +44,15 @@ fn measure(rt: &HostRuntime, circuit: &Circuit) -> io::Result<()> {
     let mut kept = 0u32;
     let start = Instant::now(rt)?;
     for round in 0..ROUNDS {
-        kept ^= with_words(circuit, &words(round))[GATES - 1].0;
+        let all = values(circuit, &words(round));
+        kept ^= all.as_slice().last().map_or(0, |word| word.0);
     }
     let word = start.elapsed(rt)?.as_nanos() / 32_000;
     let start = Instant::now(rt)?;
     for round in 0..ROUNDS {
         for test in 0..TESTS {
-            kept ^= u32::from(with_bits(circuit, &bits(test, round))[GATES - 1]);
+            let own = values(circuit, &bits(test, round));
+            kept ^= own.as_slice().last().map_or(0, |bit| u32::from(*bit));
         }
     }
     let bit = start.elapsed(rt)?.as_nanos() / 32_000;

@@ -40,9 +40,9 @@ pub fn network(heap: Global) -> Result<Circuit, AllocError> {
     for _ in 0..INPUTS {
         let _ = circuit.add_input();
     }
-    for g in 0..256 {
+    for g in 0..Circuit::MOST_GATES {
         let _ = circuit.add_gate(gate_after(g));
     }
-    let _ = circuit.add_output(Signal::Gate(256));
+    let _ = circuit.add_output(Signal::Gate(Circuit::MOST_GATES));
     Ok(circuit)
 }

@@ -1,8 +1,7 @@
 -- The lanes of a packed word are its bits; and the loop that packs, from the last bit down.
-use Rattle.std.proofs.Common.{◌≡◌, ℕ, zero, suc, ◌+◌, ◌*◌, ◌/◌, ◌%◌, ◌^◌, ◌<◌, ◌≤◌, Bool, true, false, cond, eqb, List, [], ◌∷◌, length, get_or, drop, sym, refl, ap, ◌∙◌, subst, arith, pow_mono}
+use Rattle.std.proofs.Common.{◌≡◌, ℕ, zero, suc, ◌+◌, ◌*◌, ◌/◌, ◌%◌, ◌^◌, ◌<◌, ◌≤◌, Bool, true, false, cond, eqb, List, [], ◌∷◌, ◌++◌, length, get_or, sym, refl, ap, ◌∙◌, subst, append-nil, append_assoc, length-append, arith, pow_mono}
 use mir.Val.{bool_byte}
 use Rattle.std.proofs.lemmas.Nat.{shr-shr, pow-add}
-use Rattle.std.proofs.lemmas.List.{at_drop_more, length-drop}
 use Rattle.std.proofs.lemmas.Bool.{eq-eqb, ne_eqb}
 use Rattle.signal_value.specs.Kept.{lane}
 use Rattle.failing.specs.Missed.{word_of}
@@ -47,11 +46,35 @@ byte_of : (b : Bool) → bool_byte b ≡ cond b 1 0
 byte_of true = refl
 byte_of false = refl
 
--- one bit more, at the place before
-pub packed_more : (bs : List Bool) (at before word : ℕ) (d : Bool) (y : ℕ) → at ≡ before + 1 → at ≤ length bs → word ≡ word_of (drop at bs) → y ≡ bool_byte (get_or bs before d) → y + 2 * word ≡ word_of (drop before bs)
-packed_more bs at before word d y e h is bit =
-    let split : word_of (drop before bs) ≡ cond (get_or bs before d) 1 0 + 2 * word_of (drop (before + 1) bs) = at_drop_more word_of bs before d (omega arith) in
-    (λ j. bit j + 2 * is j) ∙ (λ j. byte_of (get_or bs before d) j + 2 * word_of (drop (e j) bs)) ∙ sym split
+-- ── the bits bs, of which `left` are still to come and `done` were packed; b is the next ──
+pub record PackedSoFar (bs left : List Bool) (word : ℕ) : Type 0 where
+  pub done : List Bool
+  pub parts : bs ≡ left ++ done
+  pub value : word ≡ word_of done
 
-pub drop_few : (bs : List Bool) (k : ℕ) → length bs ≤ 32 → length (drop k bs) ≤ 32
-drop_few bs k h = omega (arith, length-drop k bs)
+module _ (bs left more : List Bool) (b : Bool) (word : ℕ) (next : left ≡ more ++ b ∷ []) (so_far : PackedSoFar bs left word) where
+  split : bs ≡ more ++ (b ∷ so_far.done)
+  split = so_far.parts ∙ ap (λ l. l ++ so_far.done) next ∙ append_assoc more (b ∷ []) so_far.done
+
+  packed_is : (y : ℕ) → y ≡ bool_byte b → y + 2 * word ≡ word_of (b ∷ so_far.done)
+  packed_is y e = (λ j. e j + 2 * so_far.value j) ∙ ap (λ n. n + 2 * word_of so_far.done) (byte_of b)
+
+  pub packed_next : (y : ℕ) → y ≡ bool_byte b → PackedSoFar bs more (y + 2 * word)
+  packed_next y e = record {
+    done = b ∷ so_far.done;
+    parts = split;
+    value = packed_is y e;
+  }
+
+  pub next_fits : (y : ℕ) → y ≡ bool_byte b → length bs ≤ 32 → y + 2 * word < 2 ^ 32
+  next_fits y e few =
+      let room : length (b ∷ so_far.done) ≤ 32 = omega (arith, few, ap length split, length-append more (b ∷ so_far.done)) in
+      let fits : word_of (b ∷ so_far.done) < 2 ^ 32 = packed_fits (b ∷ so_far.done) room in
+      subst (λ (n : ℕ). n < 2 ^ 32) (sym (packed_is y e)) fits
+
+pub none_packed : (bs left : List Bool) → left ≡ bs → PackedSoFar bs left 0
+none_packed bs left e = record { done = []; parts = sym e ∙ sym (append-nil left); value = refl }
+
+pub all_packed : (bs left : List Bool) (word : ℕ) → length left ≡ 0 → PackedSoFar bs left word → word ≡ word_of bs
+all_packed bs [] word none so_far = so_far.value ∙ ap word_of (sym so_far.parts)
+all_packed bs (y ∷ left) word none so_far = absurd (omega arith)

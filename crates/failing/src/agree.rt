@@ -1,8 +1,7 @@
 // Whether a test's measured outputs have the values that the words hold in its lane.
 ghost use Rattle.std.specs.Prelude.{◌≡◌, ◌<◌, ◌&&◌, length, ◌==◌};
 ghost use Rattle.circuit.specs.Held.{circuit_of};
-ghost use Rattle.diagnosis.specs.Explains.{agrees, agree};
-ghost use Rattle.signal_value.specs.Kept.{lane};
+ghost use Rattle.diagnosis.specs.Explains.{value, agrees, agree};
 ghost use Rattle.testlog.specs.Held.{test_of};
 ghost use Rattle.failing.specs.Columns.{in_test};
 
@@ -11,20 +10,25 @@ use evaluate::value_of;
 use signal_value::Word;
 use testlog::Test;
 
-fn bit_in_lane(word: Word, t: usize) -> bool
-    requires { t < 32 }
-    ensures { result ≡ lane word.0 t }
-{
-    (word.0 >> t) % 2 == 1
-}
-
 fn is_as_measured(measured: Option<bool>, bit: bool) -> bool
     ensures { result ≡ agrees measured bit }
 {
-    match measured {
-        Some(value) => value == bit,
-        None => true,
-    }
+    measured.is_none_or(|value| value == bit)
+}
+
+// Kept: the words and the lane stand in three functions, since a struct of them would be made once and taken apart in each.
+// Whether what was measured at an output, if anything, is what the words hold in the test's lane.
+fn output_agrees(
+    signal: Signal,
+    measured: Option<bool>,
+    inputs: &[Word],
+    values: &[Word],
+    t: usize,
+) -> bool
+    requires { t < 32 }
+    ensures { result ≡ agrees measured (value (in_test t inputs.now) (in_test t values.now) signal) }
+{
+    is_as_measured(measured, value_of(signal, inputs, values).lane(t))
 }
 
 fn outputs_agree(
@@ -37,16 +41,9 @@ fn outputs_agree(
     requires { t < 32 }
     ensures { result ≡ agree (in_test t inputs.now) (in_test t values.now) outputs.now measured.now }
 {
-    if outputs.len() != measured.len() {
-        return false;
-    }
-    for (i, signal) in outputs.iter().enumerate() {
-        let bit = bit_in_lane(value_of(*signal, inputs, values), t);
-        if !is_as_measured(measured[i], bit) {
-            return false;
-        }
-    }
-    true
+    let mut pairs = outputs.iter().zip(measured.iter());
+    outputs.len() == measured.len()
+        && pairs.all(|(signal, reading)| output_agrees(*signal, *reading, inputs, values, t))
 }
 
 // Whether the test is one of the circuit, and its measured outputs agree with its lane.
@@ -60,8 +57,6 @@ pub(crate) fn is_shown(
     requires { t < 32 }
     ensures { result ≡ (length (test_of test.now).inputs == (circuit_of circuit.now).inputs && agree (in_test t inputs.now) (in_test t values.now) (circuit_of circuit.now).outputs (test_of test.now).outputs) }
 {
-    if test.inputs().len() != circuit.inputs() {
-        return false;
-    }
-    outputs_agree(circuit.outputs(), test.outputs(), inputs, values, t)
+    test.inputs().len() == circuit.inputs()
+        && outputs_agree(circuit.outputs(), test.outputs(), inputs, values, t)
 }

@@ -8,11 +8,10 @@ use crate::agree::is_shown;
 use crate::columns::input_words;
 use crate::pack::pack;
 use circuit::Circuit;
-use evaluate::{Forced, evaluate, gate_count};
+use evaluate::{Forced, evaluate};
+use inline_list::InlineList;
 use signal_value::Word;
 use testlog::TestTable;
-
-const TESTS: usize = 32;
 
 // Bit t is set if the circuit, no gate misbehaving, misses a measured output of test t.
 pub fn failing(circuit: &Circuit, tests: &TestTable) -> u32
@@ -23,13 +22,10 @@ pub fn failing(circuit: &Circuit, tests: &TestTable) -> u32
     let applied = &applied[..];
     let inputs = &applied[0..circuit.inputs()];
     let unforced: &[Forced<Word>] = &[];
-    let table = evaluate(circuit, inputs, unforced);
-    let table = &table[..];
-    let values = &table[0..gate_count(circuit)];
-    let mut missed = [false; TESTS];
+    let values = evaluate(circuit, inputs, unforced);
+    let mut missed: InlineList<bool, 32> = InlineList::none(false);
     for (t, test) in held.iter().enumerate() {
-        missed[t] = !is_shown(circuit, test, inputs, values, t);
+        let _ = missed.push(!is_shown(circuit, test, inputs, values.as_slice(), t));
     }
-    let missed = &missed[..];
-    pack(&missed[0..held.len()])
+    pack(missed.as_slice())
 }

@@ -7,10 +7,8 @@ pub(crate) fn pack(bits: &[bool]) -> u32
     ensures { result ≡ word_of bits.now }
 {
     let mut word = 0;
-    let mut at = bits.len();
-    while at > 0 {
-        at -= 1;
-        word = u32::from(bits[at]) + 2 * word;
+    for bit in bits.iter().rev() {
+        word = u32::from(*bit) + 2 * word;
     }
     word
 }

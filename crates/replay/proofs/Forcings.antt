@@ -1,7 +1,7 @@
 -- What is forced on a set, gate by gate, and the loops that list it.
-use Rattle.std.proofs.Common.{◌≡◌, ℕ, ◌+◌, ◌/◌, ◌%◌, ◌<◌, Bool, true, false, cond, ◌||◌, eqb, List, [], ◌∷◌, ◌++◌, length, get_or, take, drop, set, Some, None, sym, refl, ap, ◌∙◌}
+use Rattle.std.proofs.Common.{◌≡◌, ℕ, ◌+◌, ◌/◌, ◌%◌, ◌<◌, Bool, true, false, cond, ◌||◌, eqb, List, [], ◌∷◌, length, get_or, drop, Some, None, sym, refl}
 use Rattle.std.specs.Option.{option_map}
-use Rattle.std.proofs.lemmas.List.{append_assoc, at_drop_more, take_more_set}
+use Rattle.std.proofs.lemmas.List.{at_drop_more}
 use Rattle.diagnosis.specs.Sets.{member}
 use Rattle.diagnosis.specs.Readings.{forced_by}
 use Rattle.signal_value.specs.declared.doubtful.Doubtful.{Doubtful}
@@ -9,7 +9,6 @@ use Rattle.signal_value.specs.declared.doubtful.Doubtful.TheVariants.{Unknown}
 use Rattle.signal_value.specs.Possible.{only, both}
 use Rattle.signal_value.specs.Kept.{known}
 use Rattle.evaluation.specs.Evaluated.{forcing}
-use Rattle.evaluate.specs.declared.forced.Forced.{Forced}
 use Rattle.evaluate.specs.Forced.{forced_at, lane_forcing}
 use Rattle.replay.specs.Written.{unknown}
 use Rattle.replay.specs.ForcedSets.{forced_bits, forced_unknown}
@@ -37,11 +36,7 @@ unknown_at (x ∷ S) n = by (eqb n x) (unknown_at S n)
 pub forced_unknown_lem : (S : List ℕ) → lane_forcing (λ (v : Doubtful) (_ : ℕ). known v) 0 (forced_unknown S) ≡ unknown S
 forced_unknown_lem S = λ j n. unknown_at S n j
 
--- ── a table of forced values, filled up to place k ──
-module _ {L : Type 0} where
-  pub forced_more : (table : List (Forced L)) (k : ℕ) (v : Forced L) (rest : List (Forced L)) → k < length table → take (k + 1) (set table k v) ++ rest ≡ take k table ++ (v ∷ rest)
-  forced_more table k v rest room = ap (λ l. l ++ rest) (take_more_set table k v room) ∙ append_assoc (take k table) (v ∷ []) rest
-
+-- ── a list of forced values, after k of them ──
 pub bits_more : (S : List ℕ) (k d rest : ℕ) → k < length S → (record { gate = get_or S k d; value = eqb (rest % 2) 1 }) ∷ forced_bits (drop (k + 1) S) (rest / 2) ≡ forced_bits (drop k S) rest
 bits_more S k d rest lt = sym (at_drop_more (λ l. forced_bits l rest) S k d lt)
 

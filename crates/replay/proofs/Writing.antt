@@ -1,16 +1,12 @@
 -- Bytes that are written one after another at the front of a buffer, at place k.
-use Rattle.std.proofs.Common.{◌≡◌, ℕ, ◌+◌, ◌-◌, ◌<◌, ◌≤◌, Bool, true, false, List, [], ◌∷◌, ◌++◌, map, length, get_or, take, drop, set, sym, refl, ap, ◌∙◌, arith}
+use Rattle.std.proofs.Common.{◌≡◌, ℕ, ◌+◌, ◌<◌, ◌≤◌, Bool, true, false, List, [], ◌∷◌, ◌++◌, map, length, get_or, take, drop, set, sym, refl, ap, ◌∙◌, arith}
 use mir.Val.{bool_byte}
-use Rattle.std.proofs.lemmas.List.{append_assoc, length-map, length-take-le, drop_more, set_at, map_more, map_push, take_all, take_more_set}
+use Rattle.std.proofs.lemmas.List.{append_assoc, length-map, length-take-le, drop_more, set_at, map_more, take_all}
 use Rattle.replay.specs.Written.{bit_byte, written}
 
 pub byte_of_bit : (b : Bool) → bool_byte b ≡ bit_byte b
 byte_of_bit true = refl
 byte_of_bit false = refl
-
--- a part from the start, as the checker reads it
-pub take_from_start : {A : Type 0} (n : ℕ) (xs : List A) → take (n - 0) xs ≡ take n xs
-take_from_start n xs = let same : n - 0 ≡ n = omega arith in ap (λ m. take m xs) same
 
 module _ {A : Type 0} (f : A → ℕ) (xs : List A) (entry : List ℕ) where
   pub written_more : (k : ℕ) (d : A) (y : ℕ) → k < length xs → k < length entry → y ≡ f (get_or xs k d) → set (map f (take k xs) ++ drop k entry) k y ≡ map f (take (k + 1) xs) ++ drop (k + 1) entry
@@ -28,8 +24,3 @@ module _ {A : Type 0} (f : A → ℕ) (xs : List A) (entry : List ℕ) where
   written_all k h g =
       let same : k ≡ length (map f xs) = omega (arith, length-map xs f) in
       ap (λ l. map f l ++ drop k entry) (take_all k xs h) ∙ ap (λ n. map f xs ++ drop n entry) same
-
--- ── a table that is filled one place after another, as some function T of what is left gives it ──
-module _ {A B : Type 0} (g : A → B) where
-  pub filled_more : (table : List A) (k : ℕ) (v : A) (rest : List B) → k < length table → map g (take (k + 1) (set table k v)) ++ rest ≡ map g (take k table) ++ (g v ∷ rest)
-  filled_more table k v rest room = ap (λ l. map g l ++ rest) (take_more_set table k v room) ∙ ap (λ l. l ++ rest) (map_push g (take k table) v) ∙ append_assoc (map g (take k table)) (g v ∷ []) rest

@@ -5,13 +5,14 @@ ghost use Rattle.circuit.specs.Held.{circuit_of};
 ghost use Rattle.replay.specs.Asked.{admits, answer};
 ghost use Rattle.replay.specs.Written.{bit_byte, written, replayed};
 
-use crate::asked::{REFUSED, is_admitted};
+use crate::asked::admit;
 use crate::forcing::forced_bits;
 use circuit::Circuit;
 use evaluate::{evaluate, gate_count};
 use refusal::Refusal;
 
 // Writes the bits at the front of the buffer, a byte each.
+// Kept: by index, since nothing is known of what a chain over `iter_mut` wrote.
 fn write_bits(bits: &[bool], buffer: &mut [u8])
     requires { length bits.now ≤ length buffer.old }
     ensures { buffer.new ≡ written (map bit_byte bits.now) buffer.old }
@@ -32,14 +33,9 @@ pub fn replay(
     ensures refused { result_err result ≡ answer (admits (circuit_of circuit.now) inputs.now set.now (length (circuit_of circuit.now).gates) (length buffer.old)) }
     ensures after { buffer.new ≡ (if admits (circuit_of circuit.now) inputs.now set.now (length (circuit_of circuit.now).gates) (length buffer.old) then written (replayed (circuit_of circuit.now) inputs.now set.now byte) buffer.old else buffer.old) }
 {
-    let count = gate_count(circuit);
-    if !is_admitted(circuit, inputs, set, count, buffer.len()) {
-        return Err(REFUSED);
-    }
+    admit(circuit, inputs, set, gate_count(circuit), buffer.len())?;
     let forced = forced_bits(set, byte);
-    let forced = &forced[..];
-    let values = evaluate(circuit, inputs, &forced[0..set.len()]);
-    let values = &values[..];
-    write_bits(&values[0..count], buffer);
+    let values = evaluate(circuit, inputs, forced.as_slice());
+    write_bits(values.as_slice(), buffer);
     Ok(())
 }

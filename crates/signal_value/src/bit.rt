@@ -6,13 +6,9 @@ use crate::logic::Logic;
 impl Logic for bool {
     const LANES: usize = 1;
 
-    ghost lanes = { 1 };
+    ghost LANES = { 1 };
 
     ghost stands = { λ b _. only b };
-
-    fn lane_count() -> usize {
-        Self::LANES
-    }
 
     fn constant(bit: bool) -> bool {
         bit

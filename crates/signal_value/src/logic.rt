@@ -8,27 +8,24 @@ ghost use Rattle.signal_value.specs.Law.{Follows, Follows2, xor};
 pub trait Logic: Copy {
     const LANES: usize;
 
-    ghost lanes: { ℕ };
+    ghost LANES: { ℕ };
 
     // What a value stands for in a lane.
     ghost stands: { Self → ℕ → Possible };
 
-    fn lane_count() -> usize
-        ensures { result ≡ lanes };
-
     // The bit in each lane.
     fn constant(bit: bool) -> Self
-        ensures { (i : ℕ) → i < lanes → stands result i ≡ only bit };
+        ensures { (i : ℕ) → i < LANES → stands result i ≡ only bit };
 
     fn and(self, other: Self) -> Self
-        ensures { (i : ℕ) → i < lanes → Follows2 ◌&&◌ (stands self i) (stands other i) (stands result i) };
+        ensures { (i : ℕ) → i < LANES → Follows2 ◌&&◌ (stands self i) (stands other i) (stands result i) };
 
     fn or(self, other: Self) -> Self
-        ensures { (i : ℕ) → i < lanes → Follows2 ◌||◌ (stands self i) (stands other i) (stands result i) };
+        ensures { (i : ℕ) → i < LANES → Follows2 ◌||◌ (stands self i) (stands other i) (stands result i) };
 
     fn xor(self, other: Self) -> Self
-        ensures { (i : ℕ) → i < lanes → Follows2 xor (stands self i) (stands other i) (stands result i) };
+        ensures { (i : ℕ) → i < LANES → Follows2 xor (stands self i) (stands other i) (stands result i) };
 
     fn not(self) -> Self
-        ensures { (i : ℕ) → i < lanes → Follows not (stands self i) (stands result i) };
+        ensures { (i : ℕ) → i < LANES → Follows not (stands self i) (stands result i) };
 }

@@ -1,6 +1,5 @@
 // The operations on doubtful values, by their tables.
-ghost use Rattle.std.specs.Prelude.{◌≡◌};
-ghost use Rattle.signal_value.specs.Kept.{known, byte_of};
+ghost use Rattle.signal_value.specs.Kept.{known};
 
 use crate::doubtful::Doubtful;
 use crate::logic::Logic;
@@ -8,13 +7,9 @@ use crate::logic::Logic;
 impl Logic for Doubtful {
     const LANES: usize = 1;
 
-    ghost lanes = { 1 };
+    ghost LANES = { 1 };
 
     ghost stands = { λ v _. known v };
-
-    fn lane_count() -> usize {
-        Self::LANES
-    }
 
     fn constant(bit: bool) -> Doubtful {
         if bit { Doubtful::One } else { Doubtful::Zero }
@@ -22,25 +17,19 @@ impl Logic for Doubtful {
 
     // A 0 decides, and a 1 leaves the other value.
     fn and(self, other: Doubtful) -> Doubtful {
-        match self {
-            Doubtful::Zero => Doubtful::Zero,
-            Doubtful::One => other,
-            Doubtful::Unknown => match other {
-                Doubtful::Zero => Doubtful::Zero,
-                Doubtful::One | Doubtful::Unknown => Doubtful::Unknown,
-            },
+        match (self, other) {
+            (Doubtful::Zero, _) | (_, Doubtful::Zero) => Doubtful::Zero,
+            (Doubtful::One, value) | (value, Doubtful::One) => value,
+            (Doubtful::Unknown, Doubtful::Unknown) => Doubtful::Unknown,
         }
     }
 
     // A 1 decides, and a 0 leaves the other value.
     fn or(self, other: Doubtful) -> Doubtful {
-        match self {
-            Doubtful::Zero => other,
-            Doubtful::One => Doubtful::One,
-            Doubtful::Unknown => match other {
-                Doubtful::Zero | Doubtful::Unknown => Doubtful::Unknown,
-                Doubtful::One => Doubtful::One,
-            },
+        match (self, other) {
+            (Doubtful::One, _) | (_, Doubtful::One) => Doubtful::One,
+            (Doubtful::Zero, value) | (value, Doubtful::Zero) => value,
+            (Doubtful::Unknown, Doubtful::Unknown) => Doubtful::Unknown,
         }
     }
 
@@ -58,19 +47,6 @@ impl Logic for Doubtful {
             Doubtful::Zero => Doubtful::One,
             Doubtful::One => Doubtful::Zero,
             Doubtful::Unknown => Doubtful::Unknown,
-        }
-    }
-}
-
-impl Doubtful {
-    // 0 or 1 for a known bit, 2 for unknown.
-    pub fn byte(self) -> u8
-        ensures { result ≡ byte_of (known self) }
-    {
-        match self {
-            Doubtful::Zero => 0,
-            Doubtful::One => 1,
-            Doubtful::Unknown => 2,
         }
     }
 }

@@ -1,4 +1,5 @@
 // The word: 32 lanes, a known bit in each.
+ghost use Rattle.std.specs.Prelude.{◌≡◌, ◌<◌};
 ghost use Rattle.signal_value.specs.Possible.{only};
 ghost use Rattle.signal_value.specs.Kept.{lane};
 
@@ -8,16 +9,22 @@ use crate::logic::Logic;
 #[derive(Clone, Copy)]
 pub struct Word(pub u32);
 
+impl Word {
+    // The bit in lane i.
+    pub fn lane(self, i: usize) -> bool
+        requires { i < 32 }
+        ensures { result ≡ lane self.0 i }
+    {
+        (self.0 >> i) % 2 == 1
+    }
+}
+
 impl Logic for Word {
     const LANES: usize = 32;
 
-    ghost lanes = { 32 };
+    ghost LANES = { 32 };
 
     ghost stands = { λ w i. only (lane w.0 i) };
-
-    fn lane_count() -> usize {
-        Self::LANES
-    }
 
     fn constant(bit: bool) -> Word {
         if bit { Word(u32::MAX) } else { Word(0) }

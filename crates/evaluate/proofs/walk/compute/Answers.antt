@@ -1,6 +1,6 @@
 use Rattle.std.proofs.Common.{true, false, not, sym, refl, ◌∙◌}
 use Rattle.circuit.specs.declared.gate.Signal.{Signal}
-use Rattle.circuit.specs.Listed.{listed}
+use Rattle.inline_list.specs.Listed.{listed}
 use Rattle.signal_value.specs.Possible.{Possible}
 use Rattle.signal_value.proofs.Images.{follows_image}
 use Rattle.evaluation.specs.Evaluated.{standing}

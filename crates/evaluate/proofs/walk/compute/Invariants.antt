@@ -8,6 +8,6 @@ use Rattle.evaluate.proofs.walk.compute.Given as goal
 
 abbrev pub invariant-loop-signal : goal.invariant-loop-signal
 invariant-loop-signal g l =
-    (i : ℕ) → i < g.L.Logic.lanes
+    (i : ℕ) → i < g.L.Logic.LANES
     → combined_possible (joins l.connective) (g.L.Logic.stands l.combined i) (map (standing (in_lane g.L.Logic.stands i l.inputs) (in_lane g.L.Logic.stands i l.values)) (drop l.signal-index l.operands))
     ≡ whole l.connective (map (standing (in_lane g.L.Logic.stands i l.inputs) (in_lane g.L.Logic.stands i l.values)) l.operands)

@@ -1,4 +1,6 @@
-use Rattle.std.proofs.Common.{◌-◌, ◌<◌, ◌≤◌, [], length, sym, refl, ap, ◌∙◌, arith, length-set, rules}
+use Rattle.std.proofs.Common.{◌≡◌, ◌-◌, ◌<◌, ◌≤◌, [], length, sym, refl, ap, ◌∙◌, arith, length-set, rules}
+use Rattle.std.proofs.lemmas.List.{length-take-le}
+use Rattle.circuit.specs.Held.{circuit_of}
 use Rattle.evaluation.specs.Evaluated.{evaluate_from}
 use Rattle.evaluate.specs.Forced.{in_lane, lane_forcing}
 use Rattle.evaluate.proofs.GateCount.{gates_listed, few_gates}
@@ -22,10 +24,13 @@ loop-i-preserved g c =
 
 pub returns : goal.returns
 returns g c =
+    let n = length c.gates-gates.result.now in
+    let all : n ≡ length (circuit_of c.args.circuit.now).gates = gates_listed c.args.circuit.now c.gates-gates.result.now c.gates-gates.ensures in
     record {
-      len = c.loop-i.invariant.1;
+      len = ap length c.first.ensures ∙ length-take-le n c.loop-i.values (omega (arith, c.loop-i.invariant.0, c.loop-i.invariant.1)) ∙ all;
       lanes = λ k h.
-          sym (gates_all (λ v. g.L.Logic.stands v k) (lane_forcing g.L.Logic.stands k c.args.forced.now) (in_lane g.L.Logic.stands k c.args.inputs.now) c.loop-i.values c.gates-gates.result.now c.loop-i.i _ c.loop-i-test.false (omega (arith, gates_listed c.args.circuit.now c.gates-gates.result.now c.gates-gates.ensures)))
+          ap (in_lane g.L.Logic.stands k) c.first.ensures
+          ∙ sym (gates_all (λ v. g.L.Logic.stands v k) (lane_forcing g.L.Logic.stands k c.args.forced.now) (in_lane g.L.Logic.stands k c.args.inputs.now) c.loop-i.values c.gates-gates.result.now c.loop-i.i n c.loop-i-test.false (omega arith))
           ∙ c.loop-i.invariant.2 k h
           ∙ ap (λ gs. evaluate_from (lane_forcing g.L.Logic.stands k c.args.forced.now) (in_lane g.L.Logic.stands k c.args.inputs.now) 1 [] gs) c.gates-gates.ensures;
     }

@@ -1,30 +1,22 @@
-use Rattle.std.proofs.Common.{◌<◌, Bool, List, length, get_or, None, sym, ap, ◌∙◌, arith}
-use Rattle.circuit.specs.declared.gate.Signal.TheVariants as signal
-use Rattle.signal_value.specs.Possible.{only}
-use Rattle.diagnosis.specs.Explains.{agrees}
+use Rattle.std.proofs.Common.{Bool, List, length, sym, ◌∙◌, rules}
+use Rattle.std.proofs.lemmas.Bool.{ne_eqb}
+use Rattle.std.specs.Iterator.Adapters.{zip_first, zip_second}
+use Rattle.std.proofs.lemmas.Iterator.{YieldsList-from_slice, YieldsList-from_zip}
+use Rattle.std.proofs.lemmas.Iterator.Search.{all_from_yields_List}
+use Rattle.diagnosis.specs.Explains.{value, agrees}
 use Rattle.failing.specs.Columns.{in_test}
-use Rattle.failing.proofs.Agreed.{agree_lengths, agree_more, agree_fails, agree_all}
-use Rattle.failing.proofs.InLanes.{signal_in_lane}
+use Rattle.failing.proofs.Agreed.{agree_lengths, agree_pairs}
 use Rattle.failing.proofs.agree.outputs_agree.Goals as goal
 
 pub returns-then-outputs-measured : goal.returns-then-outputs-measured
-returns-then-outputs-measured c = sym (agree_lengths (in_test c.args.t c.args.inputs.now) (in_test c.args.t c.args.values.now) c.args.outputs.now c.args.measured.now c.if-outputs-measured.true)
-
-pub returns-then-not-is_as_measured : goal.returns-then-not-is_as_measured
-returns-then-not-is_as_measured c =
+returns-then-outputs-measured c =
     let inputs : List Bool = in_test c.args.t c.args.inputs.now in
     let vs : List Bool = in_test c.args.t c.args.values.now in
-    let room : c.loop-i.i < length c.args.measured.now = omega arith in
-    let bit = signal_in_lane c.args.t c.args.inputs.now c.args.values.now (get_or c.args.outputs.now c.loop-i.i (signal.Input 0)) c.bit_in_lane-bit.result (ap only c.bit_in_lane-bit.ensures ∙ c.value_of.ensures c.args.t c.requires) in
-    sym (agree_fails inputs vs c.args.outputs.now c.args.measured.now c.loop-i.i (signal.Input 0) None c.loop-i-test.true room (ap (agrees (get_or c.args.measured.now c.loop-i.i None)) (sym bit) ∙ sym c.if-not-is_as_measured.ensures)) ∙ c.loop-i.invariant
+    let pairs = c.zip-pairs.result in
+    all_from_yields_List {s = pairs} (λ p. agrees p.1 (value inputs vs p.0)) c.all.new.self _ _ c.all.ensures.ran (YieldsList-from_zip {s = pairs} (YieldsList-from_slice {s = zip_first pairs} c.args.outputs.now (cc)) (YieldsList-from_slice {s = zip_second pairs} c.args.measured.now (cc))) (λ x b q k. search rules)
+    ∙ agree_pairs inputs vs c.args.outputs.now c.args.measured.now c.if-outputs-measured.true
 
-pub loop-i-preserved : goal.loop-i-preserved
-loop-i-preserved c =
-    let inputs : List Bool = in_test c.args.t c.args.inputs.now in
-    let vs : List Bool = in_test c.args.t c.args.values.now in
-    let room : c.loop-i.i < length c.args.measured.now = omega arith in
-    let bit = signal_in_lane c.args.t c.args.inputs.now c.args.values.now (get_or c.args.outputs.now c.loop-i.i (signal.Input 0)) c.bit_in_lane-bit.result (ap only c.bit_in_lane-bit.ensures ∙ c.value_of.ensures c.args.t c.requires) in
-    sym (agree_more inputs vs c.args.outputs.now c.args.measured.now c.loop-i.i (signal.Input 0) None c.loop-i-test.true room (ap (agrees (get_or c.args.measured.now c.loop-i.i None)) (sym bit) ∙ sym c.if-not-is_as_measured.ensures)) ∙ c.loop-i.invariant
-
-pub returns : goal.returns
-returns c = sym (agree_all (in_test c.args.t c.args.inputs.now) (in_test c.args.t c.args.values.now) c.args.outputs.now c.args.measured.now c.loop-i.i c.loop-i-test.false (omega arith)) ∙ c.loop-i.invariant
+pub returns-else-outputs-measured : goal.returns-else-outputs-measured
+returns-else-outputs-measured c =
+    ne_eqb (length c.args.outputs.now) (length c.args.measured.now) c.if-outputs-measured.false
+    ∙ sym (agree_lengths (in_test c.args.t c.args.inputs.now) (in_test c.args.t c.args.values.now) c.args.outputs.now c.args.measured.now c.if-outputs-measured.false)

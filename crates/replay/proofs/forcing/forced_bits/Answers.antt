@@ -1,26 +1,29 @@
-use Rattle.std.proofs.Common.{◌≡◌, ◌+◌, ◌/◌, ◌<◌, ◌++◌, length, take, drop, sym, ap, ◌∙◌, arith, length-set}
-use Rattle.std.proofs.lemmas.List.{append-nil, at_drop_all}
+use Rattle.std.proofs.Common.{◌+◌, ◌/◌, ◌<◌, ◌++◌, length, drop, sym, ap, ◌∙◌, arith, length-append}
+use Rattle.std.proofs.lemmas.List.{append-nil, append_assoc, at_drop_all}
+use Rattle.inline_list.specs.Listed.{listed}
+use Rattle.inline_list.proofs.Few.{pushed}
 use Rattle.replay.specs.ForcedSets.{forced_bits}
-use Rattle.replay.proofs.Forcings.{forced_more, bits_more}
+use Rattle.replay.proofs.Forcings.{bits_more}
 use Rattle.replay.proofs.forcing.forced_bits.Goals as goal
 
-pub loop-i-preserved : goal.loop-i-preserved
-loop-i-preserved c =
+pub loop-gate-preserved : goal.loop-gate-preserved
+loop-gate-preserved c =
     let S = c.args.set.now in
-    let k = c.loop-i.i in
-    let room : k < length c.loop-i.forced = omega (arith, c.requires) in (
-      simp length-set c.loop-i.invariant.0,
-      forced_more c.loop-i.forced k _ (forced_bits (drop (k + 1) S) (c.loop-i.rest / 2)) room
-          ∙ ap (λ l. take k c.loop-i.forced ++ l) (bits_more S k 0 c.loop-i.rest c.loop-i-test.true)
-          ∙ c.loop-i.invariant.1,
-    )
+    let k = c.loop-gate.gate-index in
+    let fs = listed c.loop-gate.forced in
+    let room : length fs < 8 = omega (arith, c.requires, c.loop-gate.invariant.one_each, c.loop-gate-test.true) in
+    let now = pushed 8 fs (listed c.push.new.self) _ _ c.push.ensures.room c.push.ensures.after room in
+    record {
+      one_each = ap length now ∙ length-append fs _ ∙ omega (arith, c.loop-gate.invariant.one_each);
+      forced_so_far =
+          ap (λ l. l ++ forced_bits (drop (k + 1) S) (c.loop-gate.rest / 2)) now
+          ∙ append_assoc fs _ (forced_bits (drop (k + 1) S) (c.loop-gate.rest / 2))
+          ∙ ap (λ l. fs ++ l) (bits_more S k 0 c.loop-gate.rest c.loop-gate-test.true)
+          ∙ c.loop-gate.invariant.forced_so_far;
+    }
 
 pub returns : goal.returns
 returns c =
     let S = c.args.set.now in
-    let k = c.loop-i.i in
-    let all : k ≡ length S = omega arith in
-    record {
-      len = c.loop-i.invariant.0;
-      value = ap (λ n. take n c.loop-i.forced) (sym all) ∙ sym (append-nil (take k c.loop-i.forced)) ∙ ap (λ l. take k c.loop-i.forced ++ l) (sym (at_drop_all (λ l. forced_bits l c.loop-i.rest) S k c.loop-i-test.false)) ∙ c.loop-i.invariant.1;
-    }
+    let fs = listed c.loop-gate.forced in
+    sym (append-nil fs) ∙ ap (λ l. fs ++ l) (sym (at_drop_all (λ l. forced_bits l c.loop-gate.rest) S c.loop-gate.gate-index c.loop-gate-test.false)) ∙ c.loop-gate.invariant.forced_so_far

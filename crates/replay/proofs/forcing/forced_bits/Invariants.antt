@@ -1,6 +1,10 @@
-use Rattle.std.proofs.Common.{◌≡◌, ◌++◌, length, take, drop}
+use Rattle.std.proofs.Common.{◌≡◌, ◌++◌, length, drop}
+use Rattle.inline_list.specs.Listed.{listed}
 use Rattle.replay.specs.ForcedSets.{forced_bits}
 use Rattle.replay.proofs.forcing.forced_bits.Given as goal
 
-abbrev pub invariant-loop-i : goal.invariant-loop-i
-invariant-loop-i l = (length l.forced ≡ 8) × (take l.i l.forced ++ forced_bits (drop l.i l.set) l.rest ≡ forced_bits l.set l.byte)
+abbrev pub invariant-loop-gate : goal.invariant-loop-gate
+invariant-loop-gate l = record {
+  one_each : length (listed l.forced) ≡ l.gate-index;
+  forced_so_far : listed l.forced ++ forced_bits (drop l.gate-index l.set) l.rest ≡ forced_bits l.set l.byte;
+}

@@ -1,29 +1,27 @@
-use Rattle.std.proofs.Common.{◌≡◌, ◌+◌, ◌<◌, List, ◌∷◌, ◌++◌, map, length, take, drop, sym, ap, ◌∙◌, arith, lit<, length-set}
-use Rattle.std.proofs.lemmas.List.{append-nil, at_drop_more, at_drop_all}
+use Rattle.std.proofs.Common.{◌<◌, false, List, [], ◌∷◌, ◌++◌, map, length, get_or, sym, ap, ◌∙◌, arith, lit<, length-append}
+use Rattle.std.proofs.lemmas.List.{map_push, map_more, take_all}
+use Rattle.inline_list.specs.Listed.{listed}
+use Rattle.inline_list.proofs.Few.{pushed}
 use Rattle.signal_value.specs.Possible.{Possible, only}
 use Rattle.signal_value.specs.Kept.{known}
-use Rattle.replay.proofs.Writing.{filled_more}
 use Rattle.replay.proofs.unknown.known_inputs.Goals as goal
 
-pub loop-i-preserved : goal.loop-i-preserved
-loop-i-preserved c =
+pub loop-bit-preserved : goal.loop-bit-preserved
+loop-bit-preserved c =
     let bits = c.args.inputs.now in
-    let k = c.loop-i.i in
-    let room : k < length c.loop-i.known = omega (arith, c.requires) in (
-      simp length-set c.loop-i.invariant.0,
-      filled_more known c.loop-i.known k _ (map only (drop (k + 1) bits)) room
-          ∙ ap (λ P. map known (take k c.loop-i.known) ++ (P ∷ map only (drop (k + 1) bits))) (c.constant.ensures 0 (lit< tt))
-          ∙ ap (λ l. map known (take k c.loop-i.known) ++ l) (sym (at_drop_more (map only) bits k _ c.loop-i-test.true))
-          ∙ c.loop-i.invariant.1,
-    )
+    let k = c.loop-bit.bit-index in
+    let vs = listed c.loop-bit.known in
+    let room : length vs < 64 = omega (arith, c.requires, c.loop-bit.invariant.one_each, c.loop-bit-test.true) in
+    let now = pushed 64 vs (listed c.push.new.self) c.constant.result _ c.push.ensures.room c.push.ensures.after room in
+    record {
+      one_each = ap length now ∙ length-append vs (c.constant.result ∷ []) ∙ omega (arith, c.loop-bit.invariant.one_each);
+      known_so_far =
+          ap (map known) now
+          ∙ map_push known vs c.constant.result
+          ∙ ap (λ P. map known vs ++ P ∷ []) (c.constant.ensures 0 (lit< tt))
+          ∙ ap (λ (l : List Possible). l ++ only (get_or bits k false) ∷ []) c.loop-bit.invariant.known_so_far
+          ∙ sym (map_more only bits k false c.loop-bit-test.true);
+    }
 
 pub returns : goal.returns
-returns c =
-    let bits = c.args.inputs.now in
-    let k = c.loop-i.i in
-    let all : k ≡ length bits = omega arith in
-    let front : List Possible = map known (take k c.loop-i.known) in
-    record {
-      len = c.loop-i.invariant.0;
-      value = ap (λ n. map known (take n c.loop-i.known)) (sym all) ∙ sym (append-nil front) ∙ ap (λ l. front ++ l) (sym (at_drop_all (map only) bits k c.loop-i-test.false)) ∙ c.loop-i.invariant.1;
-    }
+returns c = c.loop-bit.invariant.known_so_far ∙ ap (map only) (take_all c.loop-bit.bit-index c.args.inputs.now c.loop-bit-test.false)

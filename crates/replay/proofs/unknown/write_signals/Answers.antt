@@ -10,8 +10,8 @@ loop-i-preserved c =
     let entry = c.args.buffer.now in
     let f : Signal → ℕ = λ o. byte_of (standing (map known c.args.inputs.now) (map known c.args.values.now) o) in
     let room : c.loop-i.i < length entry = omega (arith, c.requires) in
-    ap (λ b. set b c.loop-i.i c.byte.result) c.loop-i.invariant
-    ∙ written_more f c.args.signals.now entry c.loop-i.i _ c.byte.result c.loop-i-test.true room (c.byte.ensures ∙ ap byte_of (c.value_of.ensures 0 (lit< tt)))
+    ap (λ b. set b c.loop-i.i c.from.result) c.loop-i.invariant
+    ∙ written_more f c.args.signals.now entry c.loop-i.i _ c.from.result c.loop-i-test.true room (c.from.ensures ∙ ap byte_of (c.value_of.ensures 0 (lit< tt)))
 
 pub returns : goal.returns
 returns c =
