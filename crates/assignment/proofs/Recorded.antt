@@ -1,37 +1,40 @@
 -- Values that are recorded on a trail: one entry more, one entry less.
-use Rattle.std.proofs.Common.{◌≡◌, ℕ, zero, suc, ◌+◌, ◌-◌, ◌<◌, ◌≤◌, true, false, eqb, ◌≢◌, List, [], ◌∷◌, length, get_or, set, ℤ, pos, negsuc, nat_abs, sym, refl, ap, ◌∙◌, subst, ⊎_elim, le_of_suc-le-suc, not-suc-le-zero, arith, length-set}
+use Rattle.std.proofs.Common.{◌≡◌, ℕ, zero, suc, ◌+◌, ◌-◌, ◌<◌, ◌≤◌, true, false, cond, eqb, ◌≢◌, List, [], ◌∷◌, length, get_or, set, ℤ, pos, negsuc, nat_abs, sym, refl, ap, ◌∙◌, subst, ⊎_elim, not-suc-le-zero, arith, length-set}
 use lib.Signed.{lt_z}
 use Rattle.std.proofs.lemmas.List.{get_or-set_same, get_or-set_other, get_or_past}
 use Rattle.std.proofs.lemmas.Bool.{cases_eq, cases_lt, cond-false, ne_eqb, not-true, false≢true, ltb-true}
+use Rattle.std.proofs.lemmas.List.Sums.{sum_by-set, sum_by-cons}
 use Rattle.solver.specs.Rows.{Row, holds}
 use Rattle.assignment.specs.Assignment.{val, Extends, Free}
-use Rattle.assignment.specs.Trail.{unset_bit, unset_count, Recorded, Before}
+use Rattle.assignment.specs.Trail.{unset_count, Recorded, Before}
+
+abbrev unset_bit : ℤ → ℕ
+unset_bit x = cond (eqb (nat_abs x) 0) 1 0
 
 -- a literal that is not 0 counts as set
 set_digit : (x : ℤ) → 1 ≤ nat_abs x → unset_bit x ≡ 0
 set_digit x l = cond-false (eqb (nat_abs x) 0) 1 0 (ne_eqb (nat_abs x) 0 (λ e. omega (arith, e)))
 
 unset_count_fill : (vs : List ℤ) (i : ℕ) (x : ℤ) → i < length vs → get_or vs i (pos 0) ≡ pos 0 → 1 ≤ nat_abs x → unset_count (set vs i x) + 1 ≡ unset_count vs
-unset_count_fill [] i x l e n = absurd (not-suc-le-zero l)
-unset_count_fill (v ∷ vs) zero x l e n =
-    let a = set_digit x n in
-    let b : unset_bit v ≡ 1 = ap unset_bit e in
-    omega arith
-unset_count_fill (v ∷ vs) (suc i) x l e n =
-    let a = unset_count_fill vs i x (le_of_suc-le-suc l) e n in
-    omega arith
+unset_count_fill vs i x l e n =
+    let all = sum_by-set unset_bit vs i x (pos 0) l in
+    let was : unset_bit (get_or vs i (pos 0)) ≡ 1 = ap unset_bit e in
+    let is = set_digit x n in
+    omega (arith, all, was, is)
 
 unset_count_free : (vs : List ℤ) (i : ℕ) → i < length vs → 1 ≤ nat_abs (get_or vs i (pos 0)) → unset_count (set vs i (pos 0)) ≡ unset_count vs + 1
-unset_count_free [] i l n = absurd (not-suc-le-zero l)
-unset_count_free (v ∷ vs) zero l n = let a = set_digit v n in omega arith
-unset_count_free (v ∷ vs) (suc i) l n = let a = unset_count_free vs i (le_of_suc-le-suc l) n in omega arith
+unset_count_free vs i l n =
+    let all = sum_by-set unset_bit vs i (pos 0) (pos 0) l in
+    let was = set_digit (get_or vs i (pos 0)) n in
+    omega (arith, all, was)
 
 pub unset_count_all : (vs : List ℤ) → ((k : ℕ) → k < length vs → get_or vs k (pos 0) ≡ pos 0) → unset_count vs ≡ length vs
 unset_count_all [] h = refl
 unset_count_all (v ∷ vs) h =
     let a = unset_count_all vs (λ k l. h (suc k) (omega arith)) in
     let b : unset_bit v ≡ 1 = ap unset_bit (h 0 (omega arith)) in
-    omega arith
+    let e = sum_by-cons unset_bit v vs in
+    omega (arith, a, b, e)
 
 pub recorded_none : (vs ts : List ℤ) → ((k : ℕ) → k < length vs → get_or vs k (pos 0) ≡ pos 0) → Recorded vs ts 0
 recorded_none vs ts h = record {

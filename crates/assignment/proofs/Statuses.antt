@@ -1,6 +1,7 @@
 -- What an assignment says of one literal more, of clauses in parts, and of two properties at once.
-use Rattle.std.proofs.Common.{◌≡◌, ℕ, ◌+◌, ◌<◌, ◌≤◌, Bool, true, false, ◌||◌, eqb, ltb, leb, List, ℤ, pos, nat_abs, sym, refl, ap, ◌∙◌, ⊎_elim, arith}
+use Rattle.std.proofs.Common.{◌≡◌, ℕ, ◌+◌, ◌<◌, ◌≤◌, Bool, true, false, ◌||◌, eqb, ltb, leb, List, ℤ, nat_abs, Option, Some, None, sym, refl, ap, ◌∙◌, ⊎_elim, arith}
 use Rattle.std.proofs.lemmas.Bool.{or_left, or_cases, false≢true, cond-false, ne_eqb, ltb-true, leb-true, and_parts, cases_eq, cases_lt}
+use Rattle.std.specs.Option.{MatchOption, option_or}
 use Rattle.solver.specs.Rows.{Row, holds, named}
 use Rattle.assignment.specs.declared.Status.{Status}
 use Rattle.assignment.specs.declared.Status.TheVariants.{Satisfied, Conflict, Forced, Open}
@@ -43,18 +44,24 @@ tells_second_of_two vs P Q Conflict n t = λ row e h. t row e h.1
 tells_second_of_two vs P Q (Forced x) n t = (t.0, λ row e h. t.1 row e h.1)
 tells_second_of_two vs P Q (Open x) n t = t
 
--- What a scan from a clause on knows at clause k: all clauses so far are true, or there is an open literal.
-abbrev pub Scanned : List ℤ → List ℤ → ℕ → ℕ → ℤ → Type 0
-Scanned vs xs from k o = (o ≡ pos 0 → Between (row_of vs) xs from k) × ((o ≡ pos 0 → ⊥) → Free vs o)
+-- what one of the clauses tells, unless that it is true, they all tell
+pub tells_of_one : (vs xs : List ℤ) (from to k : ℕ) → from ≤ k → k < to → (s : Status) → (s ≡ Satisfied → ⊥) → Tells vs (λ row. stored_true row xs k ≡ true) s → Tells vs (λ row. Between row xs from to) s
+tells_of_one vs xs from to k l h Satisfied n t = absurd (n refl)
+tells_of_one vs xs from to k l h Conflict n t = λ row e b. t row e (b k l h)
+tells_of_one vs xs from to k l h (Forced x) n t = (t.0, λ row e b. t.1 row e (b k l h))
+tells_of_one vs xs from to k l h (Open x) n t = t
 
-pub scanned_satisfied : (vs xs : List ℤ) (from k : ℕ) (o : ℤ) → Scanned vs xs from k o → stored_true (row_of vs) xs k ≡ true → Scanned vs xs from (k + 1) o
-scanned_satisfied vs xs from k o h t = ((λ z j a b. ⊎_elim (λ (e : j ≡ k). ap (stored_true (row_of vs) xs) e ∙ t) (λ (ne : j ≡ k → ⊥). h.0 z j a (omega (arith, ne))) (cases_eq j k)), h.1)
+-- What a scan from a clause on knows at clause k: all clauses so far are true, or a literal is open.
+abbrev pub Scanned : List ℤ → List ℤ → ℕ → ℕ → Option ℤ → Type 0
+Scanned vs xs from k open' = MatchOption open' (Between (row_of vs) xs from k) (Free vs)
 
-pub scanned_open : (vs xs : List ℤ) (from k : ℕ) (x : ℤ) → Free vs x → Scanned vs xs from k x
-scanned_open vs xs from k x f = ((λ z. absurd (let n = f.some in let e : nat_abs x ≡ 0 = ap nat_abs z in omega (arith, n, e))), λ _. f)
+pub scanned_satisfied : (vs xs : List ℤ) (from k : ℕ) (open' : Option ℤ) → Scanned vs xs from k open' → stored_true (row_of vs) xs k ≡ true → Scanned vs xs from (k + 1) open'
+scanned_satisfied vs xs from k None h t = λ j a b. ⊎_elim (λ (e : j ≡ k). ap (stored_true (row_of vs) xs) e ∙ t) (λ (ne : j ≡ k → ⊥). h j a (omega (arith, ne))) (cases_eq j k)
+scanned_satisfied vs xs from k (Some x) h t = h
 
-pub scanned_kept : (vs xs : List ℤ) (from k : ℕ) (o : ℤ) → Scanned vs xs from k o → (o ≡ pos 0 → ⊥) → Scanned vs xs from (k + 1) o
-scanned_kept vs xs from k o h n = scanned_open vs xs from (k + 1) o (h.1 n)
+pub scanned_open : (vs xs : List ℤ) (from k : ℕ) (open' : Option ℤ) (x : ℤ) → Scanned vs xs from k open' → Free vs x → Scanned vs xs from (k + 1) (option_or open' (Some x))
+scanned_open vs xs from k None x h f = f
+scanned_open vs xs from k (Some y) x h f = h
 
 -- a scan in two parts
 module _ (vs xs : List ℤ) (mid count : ℕ) where
@@ -79,9 +86,9 @@ module _ (vs xs : List ℤ) (mid count : ℕ) where
   pub tells_both_parts : mid ≤ count → (early late : Finding) → Tells vs (λ row. Between row xs 0 mid) early.status → Tells vs (λ row. Between row xs mid count) late.status → Tells vs (λ row. StoredTrue row xs count) (first_finding early late).status
   tells_both_parts l early late t u = tells_early_part l early.status early late refl t u
 
--- what one clause tells, all clauses tell
-pub hinted_one : (vs xs : List ℤ) (count k : ℕ) → k < count → (s : Status) → Tells vs (λ row. stored_true row xs k ≡ true) s → Hinted vs (λ row. StoredTrue row xs count) s
-hinted_one vs xs count k l Satisfied t = tt
-hinted_one vs xs count k l Conflict t = λ row e h. t row e (h k l)
-hinted_one vs xs count k l (Forced x) t = (t.0, λ row e h. t.1 row e (h k l))
-hinted_one vs xs count k l (Open x) t = tt
+-- what a hint says of the first of two properties, it says of both
+pub hinted_tells : (vs : List ℤ) (P Q : Row → Type 0) (s : Status) → Hinted vs P s → Tells vs (λ row. P row × Q row) s
+hinted_tells vs P Q Satisfied h = absurd h
+hinted_tells vs P Q Conflict h = λ row e b. h row e b.0
+hinted_tells vs P Q (Forced x) h = (h.0, λ row e b. h.1 row e b.0)
+hinted_tells vs P Q (Open x) h = absurd h

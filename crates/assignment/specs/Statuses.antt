@@ -1,7 +1,7 @@
 -- What an assignment says of a literal, and of a property of rows such as that clauses are true.
 --   Valued          the value of a literal in a place: true in the assignment's row, false in every row that extends it, or unset
 --   Tells           a status that is right: the assignment's row has the property; no row that extends it has; each such row with the property makes a literal true; a literal is unset
---   Hinted          the same of a conflict and of a forced literal, while any other status says nothing
+--   Hinted          the same of a conflict and of a forced literal; any other status is no hint
 --   first_finding   the first of two findings, or the second if the first is that all is satisfied
 use Rattle.std.specs.Prelude.{◌≡◌, true, false, List, ℤ}
 use Rattle.solver.specs.Rows.{Row, holds}
@@ -25,10 +25,10 @@ Tells vs P (Forced x) = Free vs x × ((row : Row) → Extends row vs → P row �
 Tells vs P (Open x) = Free vs x
 
 abbrev pub Hinted : List ℤ → (Row → Type 0) → Status → Type 0
-Hinted vs P Satisfied = Unit {0}
+Hinted vs P Satisfied = ⊥
 Hinted vs P Conflict = (row : Row) → Extends row vs → P row → ⊥
 Hinted vs P (Forced x) = Free vs x × ((row : Row) → Extends row vs → P row → holds row x ≡ true)
-Hinted vs P (Open x) = Unit {0}
+Hinted vs P (Open x) = ⊥
 
 abbrev pub first_unless_satisfied : Status → Finding → Finding → Finding
 first_unless_satisfied Satisfied early late = late

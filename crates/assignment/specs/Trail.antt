@@ -8,16 +8,13 @@
 --   NoOpen        no entry in a range is open
 --   digit         what a place of the trail counts: 2 if it is free, 1 if it is open, 0 if it is closed
 --   weight        so many places read as a number in base 3, the first place highest; each step of a search makes it less
-use Rattle.std.specs.Prelude.{◌≡◌, ℕ, zero, suc, ◌+◌, ◌*◌, ◌<◌, ◌≤◌, Bool, true, false, cond, List, [], ◌∷◌, length, ℤ, pos, ◌==◌, ◌≢◌, int_lt, nat_lt, slice_index_or, unsigned_abs}
+use Rattle.std.specs.Prelude.{◌≡◌, ℕ, zero, suc, ◌+◌, ◌*◌, ◌<◌, ◌≤◌, Bool, true, false, cond, List, length, ℤ, pos, ◌==◌, ◌≢◌, int_lt, nat_lt, slice_index_or, unsigned_abs}
+use Rattle.std.specs.List.{count_by}
 use Rattle.solver.specs.Rows.{Row, holds}
 use Rattle.assignment.specs.Assignment.{val}
 
-abbrev pub unset_bit : ℤ → ℕ
-unset_bit x = cond (unsigned_abs x == 0) 1 0
-
 abbrev pub unset_count : List ℤ → ℕ
-unset_count [] = 0
-unset_count (x ∷ xs) = unset_bit x + unset_count xs
+unset_count = count_by (λ x. unsigned_abs x == 0)
 
 abbrev pub is_open : List ℤ → ℕ → Bool
 is_open ds k = int_lt (pos 0) (slice_index_or ds k (pos 0))

@@ -11,7 +11,7 @@
 --   IsSatisfiable   some allowed row has each assumed literal true
 --   SameTable       the sizes, the variables, the rows and the room are the same
 use Rattle.std.specs.Prelude.{◌≡◌, ℕ, ◌+◌, ◌-◌, ◌/◌, ◌%◌, ◌^◌, ◌<◌, Bool, true, false, ◌&&◌, List, length, is_some, Some, None, Option, ◌==◌, ℤ, nat_le, nat_lt, slice_index_or}
-use Rattle.solver.specs.Lists.{all, any}
+use Rattle.std.specs.List.{list_all, list_any}
 use Rattle.solver.specs.Rows.{Row, holds, named, all_named, price}
 use Rattle.solver.specs.Meaning.{Sizes}
 use Rattle.solver.specs.Refusals.{asked}
@@ -39,7 +39,7 @@ value_asked m v = asked 24 (is_some m.shown && (nat_lt 0 v && (nat_le v m.vars &
 
 abbrev pub may_show : Model → Option ℕ → List ℤ → Bool
 may_show m None a = true
-may_show m (Some n) a = allowed_at m n && all (true_in n) a
+may_show m (Some n) a = allowed_at m n && list_all (true_in n) a
 
 pub record IsFresh (v : ℕ) (m : Model) : Type 0 where
   pub vars : m.vars ≡ v
@@ -50,11 +50,11 @@ pub record IsFresh (v : ℕ) (m : Model) : Type 0 where
 pub record AddsClause (old new : Model) (c : List ℤ) : Type 0 where
   pub vars : new.vars ≡ old.vars
   pub room : new.room + price (length c) ≡ old.room
-  pub rows : (n : ℕ) → n < 1024 → allowed_at new n ≡ (allowed_at old n && any (true_in n) c)
+  pub rows : (n : ℕ) → n < 1024 → allowed_at new n ≡ (allowed_at old n && list_any (true_in n) c)
   pub shown : new.shown ≡ None
 
 abbrev pub IsSatisfiable : Model → List ℤ → Type 0
-IsSatisfiable m a = (n : ℕ) × (n < 1024) × (allowed_at m n ≡ true) × (all (true_in n) a ≡ true)
+IsSatisfiable m a = (n : ℕ) × (n < 1024) × (allowed_at m n ≡ true) × (list_all (true_in n) a ≡ true)
 
 pub record SameTable (old new : Model) : Type 0 where
   pub sizes : sizes_of new ≡ sizes_of old

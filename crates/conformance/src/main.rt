@@ -1,6 +1,8 @@
 // Plays fixed pseudo-random calls to each solver, and compares every answer with that of a truth table.
 #![tactic(auto)]
 
+mod answer;
+mod draws;
 mod model;
 mod play;
 mod script;

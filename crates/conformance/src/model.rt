@@ -1,7 +1,7 @@
 // A truth table of up to 10 variables: the plainest solver.
 ghost use Rattle.std.specs.Prelude.{◌≡◌, ◌↔◌, None, IsTrue, IfOk, OnOk, OnErr, IfSome, nat_le};
-ghost use Rattle.solver.specs.Lists.{all, any};
-ghost use Rattle.solver.specs.Rows.{all_named};
+ghost use Rattle.std.specs.List.{list_all, list_any};
+ghost use Rattle.solver.specs.Rows.{named, all_named};
 ghost use Rattle.solver.specs.Refusals.{refusal, asked};
 ghost use Rattle.conformance.specs.TruthTables.{row_of, true_in, sizes_of, add_asked, value_asked, may_show, IsFresh, AddsClause, IsSatisfiable, SameTable};
 
@@ -32,37 +32,29 @@ fn literal_true(row: usize, literal: i32) -> bool
 }
 
 fn some_true(row: usize, literals: &[i32]) -> bool
-    ensures { result ≡ any (true_in row) literals.now }
+    ensures { result ≡ list_any (true_in row) literals.now }
 {
-    for literal in literals {
-        if literal_true(row, *literal) {
-            return true;
-        }
-    }
-    false
+    literals.iter().any(|literal| literal_true(row, *literal))
 }
 
 fn all_true(row: usize, literals: &[i32]) -> bool
-    ensures { result ≡ all (true_in row) literals.now }
+    ensures { result ≡ list_all (true_in row) literals.now }
 {
-    for literal in literals {
-        if !literal_true(row, *literal) {
-            return false;
-        }
-    }
-    true
+    literals.iter().all(|literal| literal_true(row, *literal))
+}
+
+// Kept: this and the next are not those of the crate solver, so that a fault there does not hide from the truth table.
+fn is_known(vars: usize, literal: i32) -> bool
+    ensures { result ≡ named vars literal }
+{
+    let variable = literal.unsigned_abs() as usize;
+    1 <= variable && variable <= vars
 }
 
 fn all_known(vars: usize, literals: &[i32]) -> bool
     ensures { result ≡ all_named vars literals.now }
 {
-    for literal in literals {
-        let variable = literal.unsigned_abs() as usize;
-        if variable == 0 || variable > vars {
-            return false;
-        }
-    }
-    true
+    literals.iter().all(|literal| is_known(vars, *literal))
 }
 
 impl Model {
@@ -141,12 +133,12 @@ impl Model {
         if !all_known(self.vars, assumed) {
             return Err(SolverFault::UnknownVariable);
         }
-        for (row, allowed) in self.allowed.iter().enumerate() {
-            if *allowed && all_true(row, assumed) {
-                return Ok(true);
-            }
-        }
-        Ok(false)
+        let found = self
+            .allowed
+            .iter()
+            .enumerate()
+            .any(|(row, allowed)| *allowed && all_true(row, assumed));
+        Ok(found)
     }
 
     // Takes over the row that a solver shows, if any, and says whether it may show that.

@@ -1,42 +1,20 @@
 // Plays a script to a solver, beside a truth table.
-use super::model::Model;
-use super::script::{Call, Script};
-use super::tally::Tally;
+use crate::answer::Answer;
+use crate::model::Model;
+use crate::script::{Call, Script};
+use crate::tally::Tally;
 use solver::{Solver, SolverFault};
 
-fn done(res: Result<(), SolverFault>) -> u8 {
-    match res {
-        Ok(()) => 2,
-        Err(refusal) => refusal.number(),
-    }
-}
-
-fn answer(res: Result<bool, SolverFault>) -> u8 {
-    match res {
-        Ok(false) => 0,
-        Ok(true) => 1,
-        Err(refusal) => refusal.number(),
-    }
-}
-
-fn value(res: Result<bool, SolverFault>) -> u8 {
-    match res {
-        Ok(false) => 3,
-        Ok(true) => 4,
-        Err(refusal) => refusal.number(),
-    }
-}
+// Kept: the solver, the table and the tally as three parameters; in one struct the solver's soundness would be asked of each method as here.
 
 // The number of the row shown, read variable by variable.
 fn row_shown<S: Solver>(solver: &S, vars: usize) -> Option<usize>
     requires { S.Solver.sound solver.now }
 {
     let mut row = 0;
-    for variable in 1..vars.min(10) + 1 {
-        match solver.value(variable) {
-            Ok(true) => row |= 1 << (variable - 1),
-            Ok(false) => {}
-            Err(_) => return None,
+    for variable in 1..=vars.min(10) {
+        if solver.value(variable).ok()? {
+            row |= 1 << (variable - 1);
         }
     }
     Some(row)
@@ -49,8 +27,8 @@ fn solve<S: Solver>(solver: &mut S, model: &mut Model, assumed: &[i32], tally: &
 {
     let told = solver.solve(assumed);
     let expected = model.solve(assumed);
-    tally.count(answer(told), answer(expected));
-    tally.fix(answer(told));
+    tally.count(Answer::solved(told), Answer::solved(expected));
+    tally.fix(Answer::solved(told));
     if let Ok(yes) = told {
         let row = if yes {
             row_shown(solver, model.vars())
@@ -67,8 +45,8 @@ fn begin<S: Solver>(solver: &mut S, model: &mut Model, vars: usize, tally: &mut 
     requires { S.Solver.sound solver.old }
     ensures { S.Solver.sound solver.new }
 {
-    let told = done(solver.begin(vars));
-    tally.count(told, done(model.begin(vars)));
+    let told = Answer::done(solver.begin(vars));
+    tally.count(told, Answer::done(model.begin(vars)));
     tally.fix(told);
 }
 
@@ -77,9 +55,9 @@ fn add<S: Solver>(solver: &mut S, model: &mut Model, clause: &[i32], tally: &mut
     requires { S.Solver.sound solver.old }
     ensures { S.Solver.sound solver.new }
 {
-    let expected = done(model.add(clause));
-    if expected != SolverFault::NoRoom.number() || model.full_room() == solver.full_room() {
-        let told = done(solver.add(clause));
+    let expected = Answer::done(model.add(clause));
+    if expected != Answer::Refused(SolverFault::NoRoom) || model.full_room() == solver.full_room() {
+        let told = Answer::done(solver.add(clause));
         tally.count(told, expected);
         tally.fix(told);
     }
@@ -90,7 +68,7 @@ pub fn play<S: Solver>(solver: &mut S, mut model: Model, mut script: Script, cal
     requires { S.Solver.sound solver.old }
     ensures { S.Solver.sound solver.new }
 {
-    let mut tally = Tally::NONE;
+    let mut tally = Tally::default();
     let _ = solver.begin(0);
     for _ in 0..calls {
         match script.next() {
@@ -98,8 +76,8 @@ pub fn play<S: Solver>(solver: &mut S, mut model: Model, mut script: Script, cal
             Call::Add(clause) => add(solver, &mut model, clause.as_slice(), &mut tally),
             Call::Solve(assumed) => solve(solver, &mut model, assumed.as_slice(), &mut tally),
             Call::Value(variable) => tally.count(
-                value(solver.value(variable)),
-                value(model.value(variable)),
+                Answer::value(solver.value(variable)),
+                Answer::value(model.value(variable)),
             ),
         }
     }

@@ -1,10 +1,20 @@
 // What came of the calls played.
-ghost use Rattle.std.specs.Prelude.{◌≡◌, ◌+◌, ◌*◌, ◌-◌, ◌%◌, ◌^◌, ◌<◌, ◌↔◌, IsTrue, slice_index, slice_set};
-ghost use Rattle.conformance.specs.Tallies.{up, CountsAnswer};
+ghost use Rattle.std.specs.Prelude.{◌≡◌, ◌+◌, ◌*◌, ◌-◌, ◌%◌, ◌^◌, ◌↔◌, IsTrue, slice_index, slice_set};
+ghost use Rattle.solver.specs.Refusals.{number};
+ghost use Rattle.conformance.specs.Tallies.{up, code, CountsAnswer};
 
+use crate::answer::Answer;
+use solver::SolverFault;
 use std::fmt;
 
-#[derive(Clone, Copy)]
+// One more, up to the most that 32 bits hold.
+fn raise(count: &mut u32)
+    ensures { count.new ≡ up count.old }
+{
+    *count = count.saturating_add(1);
+}
+
+#[derive(Clone, Copy, Default)]
 pub struct Tally {
     pub calls: u32,
     pub accepted: u32,
@@ -16,51 +26,40 @@ pub struct Tally {
 }
 
 impl Tally {
-    pub const NONE: Tally = Tally {
-        calls: 0,
-        accepted: 0,
-        yes: 0,
-        no: 0,
-        refused: [0; 5],
-        mismatches: 0,
-        digest: 0,
-    };
-
-    // Counts an answer, as a code: 0 no, 1 yes, 2 done, 3 and 4 a value, or the number of a refusal.
-    pub fn count(&mut self, told: u8, expected: u8)
-        ensures { CountsAnswer self.old self.new told expected }
+    // Counts an answer.
+    pub fn count(&mut self, told: Answer, expected: Answer)
+        ensures { CountsAnswer self.old self.new (code told) (code expected) }
     {
-        self.calls = self.calls.saturating_add(1);
+        raise(&mut self.calls);
         if told != expected {
             self.mismatch();
         }
         match told {
-            0 => self.no = self.no.saturating_add(1),
-            1 => self.yes = self.yes.saturating_add(1),
-            20..=24 => self.refuse((told - 20) as usize),
-            _ => self.accepted = self.accepted.saturating_add(1),
+            Answer::No => raise(&mut self.no),
+            Answer::Yes => raise(&mut self.yes),
+            Answer::Done | Answer::Zero | Answer::One => raise(&mut self.accepted),
+            Answer::Refused(fault) => self.refuse(fault),
         }
     }
 
-    fn refuse(&mut self, kind: usize)
-        ensures { kind < 5 → self.new ≡ record self.old { refused = slice_set self.old.refused kind (up (slice_index self.old.refused kind)) } }
+    fn refuse(&mut self, fault: SolverFault)
+        ensures { let kind = number fault - 20 in self.new ≡ record self.old { refused = slice_set self.old.refused kind (up (slice_index self.old.refused kind)) } }
     {
-        if kind < 5 {
-            self.refused[kind] = self.refused[kind].saturating_add(1);
-        }
+        let kind = (fault.number() - 20) as usize;
+        self.refused[kind] = self.refused[kind].saturating_add(1);
     }
 
     pub fn mismatch(&mut self)
         ensures { self.new ≡ record self.old { mismatches = up self.old.mismatches } }
     {
-        self.mismatches = self.mismatches.saturating_add(1);
+        raise(&mut self.mismatches);
     }
 
     // Takes an answer that leaves no choice into the digest.
-    pub fn fix(&mut self, told: u8)
-        ensures { self.new ≡ record self.old { digest = (self.old.digest * 31 + told) % 2 ^ 32 } }
+    pub fn fix(&mut self, told: Answer)
+        ensures { self.new ≡ record self.old { digest = (self.old.digest * 31 + code told) % 2 ^ 32 } }
     {
-        self.digest = self.digest.wrapping_mul(31).wrapping_add(u32::from(told));
+        self.digest = self.digest.wrapping_mul(31).wrapping_add(told.code());
     }
 
     // Whether two solvers gave the same answers.

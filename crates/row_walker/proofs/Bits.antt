@@ -1,6 +1,7 @@
 -- What `&` and `|` do to masks, said of the variables that they hold.
 use Rattle.std.proofs.Common.{◌≡◌, ℕ, zero, suc, ◌+◌, ◌*◌, ◌/◌, ◌%◌, ◌^◌, ◌<◌, min, Bool, true, false, not, ◌&&◌, ◌||◌, eqb, ◌⊎◌, sym, refl, ap, ◌∙◌, inl, inr, ⊎_elim, pow-suc, arith, shr-shr}
 use lib.Bits.{bit_and, bit_or, and_step, or_step, and_zero_r, or_zero_r}
+use Rattle.std.proofs.Math.Bool.{and-false, or_assoc}
 use Rattle.std.proofs.lemmas.Bool.{eq-eqb, ne_eqb, cases_eq}
 use Rattle.solver.specs.Rows.{Row}
 use Rattle.row_walker.specs.Masks.{odd, inverse, meets}
@@ -39,6 +40,7 @@ same_test a b c d f g = ⊎_elim (λ e. eq-eqb a b e ∙ sym (eq-eqb c d (f e)))
 
 -- no variable of the mask is 1 in the row
 pub and_none : (v k n m : ℕ) (row : Row) → BitsOf v n row → m < 2 ^ k → eqb (bit_and n m) 0 ≡ not (meets v k m row)
+unfolding meets
 and_none v zero n m row h l =
     let e : m ≡ 0 = omega arith in
     ap (λ x. eqb (bit_and n x) 0) e ∙ eq-eqb (bit_and n 0) 0 (and_zero_r n)
@@ -56,13 +58,10 @@ and_none v (suc k) n m row h l =
     (λ no'. ne_eqb (bit_and n m) 0 (λ e. omega (arith, e, s, no', mo)) ∙ sym (ap (λ b. not ((b && row (suc v)) || meets (suc v) k (m / 2) row)) (odd_yes m mo) ∙ ap (λ b. not (b || meets (suc v) k (m / 2) row)) (first ∙ odd_yes n no')))
     (parity n))
     (parity m)
-  where
-    and-false : (b : Bool) → (b && false) ≡ false
-    and-false true = refl
-    and-false false = refl
 
 -- no variable of the mask is 0 in the row
 pub and_all : (v k n m : ℕ) (row : Row) → BitsOf v n row → m < 2 ^ k → eqb (bit_and n m) m ≡ not (meets v k m (inverse row))
+unfolding meets
 and_all v zero n m row h l =
     let e : m ≡ 0 = omega arith in
     ap (λ x. eqb (bit_and n x) x) e ∙ eq-eqb (bit_and n 0) 0 (and_zero_r n)
@@ -90,12 +89,9 @@ or_again true false false = refl
 or_again false false true = refl
 or_again false false false = refl
 
-or_grouped : (a b c : Bool) → (a || (b || c)) ≡ ((a || b) || c)
-or_grouped true b c = refl
-or_grouped false b c = refl
-
 -- a mask with one bit more holds one variable more
 pub or_bit : (v k i m : ℕ) (row : Row) → i < k → meets v k (bit_or m (2 ^ i)) row ≡ (meets v k m row || row (suc (v + i)))
+unfolding meets
 or_bit v zero i m row l = absurd (omega arith)
 or_bit v (suc k) zero m row l =
     let s = or_step m (2 ^ 0) in
@@ -118,19 +114,24 @@ or_bit v (suc k) (suc i) m row l =
     ap (λ x. (eqb x 1 && row (suc v)) || meets (suc v) k (bit_or m (2 ^ suc i) / 2) row) low
     ∙ ap (λ x. (odd m && row (suc v)) || meets (suc v) k x row) half
     ∙ ap (λ b. (odd m && row (suc v)) || b) (or_bit (suc v) k i (m / 2) row (omega arith))
-    ∙ or_grouped (odd m && row (suc v)) (meets (suc v) k (m / 2) row) (row (suc (suc v + i)))
+    ∙ sym (or_assoc (odd m && row (suc v)) (meets (suc v) k (m / 2) row) (row (suc (suc v + i))))
     ∙ ap (λ w. ((odd m && row (suc v)) || meets (suc v) k (m / 2) row) || row w) e
 
 -- an empty mask holds no variable
 pub meets_none : (v k : ℕ) (row : Row) → meets v k 0 row ≡ false
+unfolding meets
 meets_none v zero row = refl
 meets_none v (suc k) row = meets_none (suc v) k row
 
--- a mask of k variables does not tell rows apart that agree on these
-pub meets_agree : (v k m : ℕ) (a b : Row) → ((j : ℕ) → j < k → a (suc (v + j)) ≡ b (suc (v + j))) → meets v k m a ≡ meets v k m b
-meets_agree v zero m a b g = refl
-meets_agree v (suc k) m a b g =
+-- a mask below 2 ^ vars does not tell rows apart that agree on these variables
+pub meets_agree : (v k vars m : ℕ) (a b : Row) → m < 2 ^ vars → ((j : ℕ) → j < vars → a (suc (v + j)) ≡ b (suc (v + j))) → meets v k m a ≡ meets v k m b
+unfolding meets
+meets_agree v zero vars m a b l g = refl
+meets_agree v (suc k) zero m a b l g =
+    let e : m ≡ 0 = omega arith in
+    rw e (meets_none v (suc k) a ∙ sym (meets_none v (suc k) b))
+meets_agree v (suc k) (suc vars) m a b l g =
     let e : suc (v + 0) ≡ suc v = omega arith in
     let first : a (suc v) ≡ b (suc v) = sym (ap a e) ∙ g 0 (omega arith) ∙ ap b e in
-    let rest = meets_agree (suc v) k (m / 2) a b (λ j l. let f : suc (suc v + j) ≡ suc (v + suc j) = omega arith in ap a f ∙ g (suc j) (omega (arith, l)) ∙ sym (ap b f)) in
+    let rest = meets_agree (suc v) k vars (m / 2) a b (half_below vars m l) (λ j h. let f : suc (suc v + j) ≡ suc (v + suc j) = omega arith in ap a f ∙ g (suc j) (omega (arith, h)) ∙ sym (ap b f)) in
     ap (λ x. (odd m && x) || meets (suc v) k (m / 2) a) first ∙ ap (λ x. (odd m && b (suc v)) || x) rest

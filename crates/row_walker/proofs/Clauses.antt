@@ -2,6 +2,7 @@
 use Rattle.std.proofs.Common.{◌≡◌, ℕ, suc, ◌+◌, ◌-◌, ◌^◌, ◌<◌, Bool, true, false, not, ◌&&◌, ◌||◌, eqb, ℤ, pos, negsuc, nat_abs, sym, refl, ap, ◌∙◌, arith}
 use lib.Bits.{bit_and, bit_or, or_lt}
 use lib.Signed.{lt_z}
+use Rattle.std.proofs.Math.Bool.{not-not, or_assoc}
 use Rattle.std.proofs.lemmas.Nat.{pow_below}
 use Rattle.std.proofs.lemmas.Bool.{and_parts, and_from, ltb-true, lt-ltb, leb-true, true≢false}
 use Rattle.solver.specs.Rows.{Row, holds, named}
@@ -10,38 +11,23 @@ use Rattle.row_walker.specs.Masks.{row_of, inverse, meets, clause_true, within}
 use Rattle.row_walker.proofs.Bits.{and_none, and_all, or_bit, meets_agree}
 use Rattle.row_walker.proofs.Rows.{row_of_bits}
 
-not_from : (a b : Bool) → a ≡ not b → not a ≡ b
-not_from a true e = ap not e
-not_from a false e = ap not e
-
-not_not : (b : Bool) → not (not b) ≡ b
-not_not true = refl
-not_not false = refl
-
 not_or : (a b : Bool) → (not a && not b) ≡ not (a || b)
 not_or true b = refl
 not_or false b = refl
 
-module _ (n : ℕ) (c : Clause) (vars : ℕ) (inside : within vars c ≡ true) where
-  parts : (c.positive < 2 ^ vars) × (c.negative < 2 ^ vars)
-  parts = let r = and_parts _ _ inside in (ltb-true _ _ r.0, ltb-true _ _ r.1)
-
-  pub some_tested : (not (eqb (bit_and n c.positive) 0) || not (eqb (bit_and n c.negative) c.negative)) ≡ clause_true vars (row_of n) c
+module _ (n : ℕ) (c : Clause) (low : c.positive < 2 ^ 32) (high : c.negative < 2 ^ 32) where
+  pub some_tested : (not (eqb (bit_and n c.positive) 0) || not (eqb (bit_and n c.negative) c.negative)) ≡ clause_true (row_of n) c
   some_tested =
-      ap (λ b. b || not (eqb (bit_and n c.negative) c.negative)) (not_from _ _ (and_none 0 vars n c.positive (row_of n) (row_of_bits n) parts.0))
-      ∙ ap (λ b. meets 0 vars c.positive (row_of n) || b) (not_from _ _ (and_all 0 vars n c.negative (row_of n) (row_of_bits n) parts.1))
+      ap (λ b. b || not (eqb (bit_and n c.negative) c.negative)) (ap not (and_none 0 32 n c.positive (row_of n) (row_of_bits n) low) ∙ not-not _)
+      ∙ ap (λ b. meets 0 32 c.positive (row_of n) || b) (ap not (and_all 0 32 n c.negative (row_of n) (row_of_bits n) high) ∙ not-not _)
 
-  pub all_tested : (eqb (bit_and n c.positive) c.positive && eqb (bit_and n c.negative) 0) ≡ not (clause_true vars (inverse (row_of n)) c)
+  pub all_tested : (eqb (bit_and n c.positive) c.positive && eqb (bit_and n c.negative) 0) ≡ not (clause_true (inverse (row_of n)) c)
   all_tested =
       let row = row_of n in
-      let back = meets_agree 0 vars c.negative row (inverse (inverse row)) (λ j l. sym (not_not (row (suc (0 + j))))) in
-      ap (λ b. b && eqb (bit_and n c.negative) 0) (and_all 0 vars n c.positive row (row_of_bits n) parts.0)
-      ∙ ap (λ b. not (meets 0 vars c.positive (inverse row)) && b) (and_none 0 vars n c.negative row (row_of_bits n) parts.1 ∙ ap not back)
-      ∙ not_or (meets 0 vars c.positive (inverse row)) (meets 0 vars c.negative (inverse (inverse row)))
-
-or_last : (a b x : Bool) → (a || (b || x)) ≡ ((a || b) || x)
-or_last true b x = refl
-or_last false b x = refl
+      let back = meets_agree 0 32 32 c.negative row (inverse (inverse row)) high (λ j l. sym (not-not (row (suc (0 + j))))) in
+      ap (λ b. b && eqb (bit_and n c.negative) 0) (and_all 0 32 n c.positive row (row_of_bits n) low)
+      ∙ ap (λ b. not (meets 0 32 c.positive (inverse row)) && b) (and_none 0 32 n c.negative row (row_of_bits n) high ∙ ap not back)
+      ∙ not_or (meets 0 32 c.positive (inverse row)) (meets 0 32 c.negative (inverse (inverse row)))
 
 or_between : (a b x : Bool) → ((a || x) || b) ≡ ((a || b) || x)
 or_between true b x = refl
@@ -69,28 +55,28 @@ place vars x k =
 below : (vars m i : ℕ) → m < 2 ^ vars → i < vars → bit_or m (2 ^ i) < 2 ^ vars
 below vars m i h l = or_lt vars m (2 ^ i) h (pow_below i vars l)
 
-module _ (c : Clause) (x : ℤ) (vars : ℕ) (known : named vars x ≡ true) where
+module _ (c : Clause) (x : ℤ) where
   abbrev pub with-positive : Clause
   with-positive = record { positive = bit_or c.positive (2 ^ (nat_abs x - 1)); negative = c.negative }
 
   abbrev pub with-negative : Clause
   with-negative = record { positive = c.positive; negative = bit_or c.negative (2 ^ (nat_abs x - 1)) }
 
-  pub positive_inside : within vars c ≡ true → within vars with-positive ≡ true
-  positive_inside h = let r = and_parts _ _ h in and_from _ _ (lt-ltb _ _ (below vars c.positive (nat_abs x - 1) (ltb-true _ _ r.0) (place vars x known).0)) r.1
+  pub positive_inside : (vars : ℕ) → named vars x ≡ true → within vars c ≡ true → within vars with-positive ≡ true
+  positive_inside vars known h = let r = and_parts _ _ h in and_from _ _ (lt-ltb _ _ (below vars c.positive (nat_abs x - 1) (ltb-true _ _ r.0) (place vars x known).0)) r.1
 
-  pub negative_inside : within vars c ≡ true → within vars with-negative ≡ true
-  negative_inside h = let r = and_parts _ _ h in and_from _ _ r.0 (lt-ltb _ _ (below vars c.negative (nat_abs x - 1) (ltb-true _ _ r.1) (place vars x known).0))
+  pub negative_inside : (vars : ℕ) → named vars x ≡ true → within vars c ≡ true → within vars with-negative ≡ true
+  negative_inside vars known h = let r = and_parts _ _ h in and_from _ _ r.0 (lt-ltb _ _ (below vars c.negative (nat_abs x - 1) (ltb-true _ _ r.1) (place vars x known).0))
 
-  joined : (m : ℕ) (row : Row) → meets 0 vars (bit_or m (2 ^ (nat_abs x - 1))) row ≡ (meets 0 vars m row || row (nat_abs x))
-  joined m row = let p = place vars x known in or_bit 0 vars (nat_abs x - 1) m row p.0 ∙ ap (λ v. meets 0 vars m row || row v) p.1
+  joined : named 32 x ≡ true → (m : ℕ) (row : Row) → meets 0 32 (bit_or m (2 ^ (nat_abs x - 1))) row ≡ (meets 0 32 m row || row (nat_abs x))
+  joined known m row = let p = place 32 x known in or_bit 0 32 (nat_abs x - 1) m row p.0 ∙ ap (λ v. meets 0 32 m row || row v) p.1
 
-  pub positive_says : lt_z x (pos 0) ≡ false → (row : Row) → clause_true vars row with-positive ≡ (clause_true vars row c || holds row x)
-  positive_says e row =
-      ap (λ b. b || meets 0 vars c.negative (inverse row)) (joined c.positive row ∙ ap (λ b. meets 0 vars c.positive row || b) (sym (holds_positive row x e)))
-      ∙ or_between (meets 0 vars c.positive row) (meets 0 vars c.negative (inverse row)) (holds row x)
+  pub positive_says : named 32 x ≡ true → lt_z x (pos 0) ≡ false → (row : Row) → clause_true row with-positive ≡ (clause_true row c || holds row x)
+  positive_says known e row =
+      ap (λ b. b || meets 0 32 c.negative (inverse row)) (joined known c.positive row ∙ ap (λ b. meets 0 32 c.positive row || b) (sym (holds_positive row x e)))
+      ∙ or_between (meets 0 32 c.positive row) (meets 0 32 c.negative (inverse row)) (holds row x)
 
-  pub negative_says : lt_z x (pos 0) ≡ true → (row : Row) → clause_true vars row with-negative ≡ (clause_true vars row c || holds row x)
-  negative_says e row =
-      ap (λ b. meets 0 vars c.positive row || b) (joined c.negative (inverse row) ∙ ap (λ b. meets 0 vars c.negative (inverse row) || b) (sym (holds_negative row x e)))
-      ∙ or_last (meets 0 vars c.positive row) (meets 0 vars c.negative (inverse row)) (holds row x)
+  pub negative_says : named 32 x ≡ true → lt_z x (pos 0) ≡ true → (row : Row) → clause_true row with-negative ≡ (clause_true row c || holds row x)
+  negative_says known e row =
+      ap (λ b. meets 0 32 c.positive row || b) (joined known c.negative (inverse row) ∙ ap (λ b. meets 0 32 c.negative (inverse row) || b) (sym (holds_negative row x e)))
+      ∙ sym (or_assoc (meets 0 32 c.positive row) (meets 0 32 c.negative (inverse row)) (holds row x))

@@ -1,7 +1,11 @@
 -- Rows and the numbers below 2 ^ vars.
-use Rattle.std.proofs.Common.{◌≡◌, ℕ, zero, suc, ◌+◌, ◌-◌, ◌*◌, ◌/◌, ◌%◌, ◌^◌, ◌<◌, Bool, true, false, cond, not, ◌&&◌, ◌||◌, eqb, List, [], ◌∷◌, take, ℤ, pos, negsuc, is_some, Some, None, Option, sym, refl, ap, ◌∙◌, le_of_suc-le-suc, not-suc-le-zero, pow-suc, arith, shr-shr}
-use Rattle.std.specs.Option.{option_map}
-use Rattle.solver.specs.Lists.{all}
+use Rattle.std.proofs.Common.{◌≡◌, ℕ, zero, suc, ◌+◌, ◌-◌, ◌*◌, ◌/◌, ◌%◌, ◌^◌, ◌<◌, Bool, true, false, cond, not, ◌&&◌, ◌||◌, eqb, ltb, List, [], ◌∷◌, ◌++◌, length, get_or, ℤ, pos, negsuc, is_some, Some, None, Option, sym, refl, ap, ◌∙◌, le_of_suc-le-suc, not-suc-le-zero, pow-suc, arith, shr-shr}
+use Rattle.std.specs.Option.{option_map, MatchOption}
+use Rattle.std.specs.List.{list_all, AllWithin, HoldsAt, range_with_len}
+use Rattle.std.proofs.Math.Bool.{and-true}
+use Rattle.std.proofs.lemmas.List.Folds.{list_all-append}
+use Rattle.std.proofs.lemmas.List.FromFn.{length-range_with_len, get_or-range_with_len}
+use Rattle.std.proofs.lemmas.Bool.{and_parts, and_from, ltb-true, true≢false}
 use Rattle.solver.specs.Rows.{Row, Agree, holds, all_named, all_true, some_true}
 use Rattle.solver.specs.Meaning.{Meaning, Answered}
 use Rattle.solver.proofs.Rows.{all_true_agree}
@@ -81,27 +85,40 @@ numbered row vars = (
       sym (number_bit row 0 vars (v - 1) (omega (arith, low, high)) ∙ ap row e),
 )
 
-clause_agree : (vars : ℕ) (a b : Row) → Agree vars a b → (c : Clause) → clause_true vars a c ≡ clause_true vars b c
-clause_agree vars a b g c =
+clause_agree : (vars : ℕ) (a b : Row) → Agree vars a b → (c : Clause) → within vars c ≡ true → clause_true a c ≡ clause_true b c
+clause_agree vars a b g c inside =
+    let r = and_parts (ltb c.positive (2 ^ vars)) (ltb c.negative (2 ^ vars)) inside in
     let same : (j : ℕ) → j < vars → a (suc (0 + j)) ≡ b (suc (0 + j)) = λ j l. g (suc (0 + j)) (omega arith) (omega (arith, l)) in
-    ap (λ t. t || meets 0 vars c.negative (inverse a)) (meets_agree 0 vars c.positive a b same)
-    ∙ ap (λ t. meets 0 vars c.positive b || t) (meets_agree 0 vars c.negative (inverse a) (inverse b) (λ j l. ap not (same j l)))
+    ap (λ t. t || meets 0 32 c.negative (inverse a)) (meets_agree 0 32 vars c.positive a b (ltb-true _ _ r.0) same)
+    ∙ ap (λ t. meets 0 32 c.positive b || t) (meets_agree 0 32 vars c.negative (inverse a) (inverse b) (ltb-true _ _ r.1) (λ j l. ap not (same j l)))
 
-pub clauses_agree : (vars : ℕ) (a b : Row) → Agree vars a b → (cs : List Clause) → all (clause_true vars a) cs ≡ all (clause_true vars b) cs
-clauses_agree vars a b g [] = refl
-clauses_agree vars a b g (c ∷ cs) = rw (clause_agree vars a b g c, clauses_agree vars a b g cs) refl
+pub clauses_agree : (vars : ℕ) (a b : Row) → Agree vars a b → (cs : List Clause) → list_all (within vars) cs ≡ true → list_all (clause_true a) cs ≡ list_all (clause_true b) cs
+clauses_agree vars a b g [] h = refl
+clauses_agree vars a b g (c ∷ cs) h = let r = and_parts (within vars c) _ h in rw (clause_agree vars a b g c r.0, clauses_agree vars a b g cs r.1) refl
 
 -- what was found answers the question
-pub found_answers : (m : Meaning) (vars : ℕ) (cs : List Clause) (a : List ℤ) → ((row : Row) → m.allowed row → all (clause_true vars row) cs ≡ true) → ((row : Row) → all (clause_true vars row) cs ≡ true → m.allowed row) → all_named vars a ≡ true → (o : Option ℕ) → Found vars cs a o → Answered m a (is_some o) (option_map row_of o)
-found_answers m vars cs a to from known None f = λ row p t.
+pub found_answers : (m : Meaning) (vars : ℕ) (cs : List Clause) (a : List ℤ) → ((row : Row) → m.allowed row → list_all (clause_true row) cs ≡ true) → ((row : Row) → list_all (clause_true row) cs ≡ true → m.allowed row) → list_all (within vars) cs ≡ true → all_named vars a ≡ true → (o : Option ℕ) → Found vars cs a o → Answered m a (is_some o) (option_map row_of o)
+found_answers m vars cs a to from inside known None f = λ row p t.
     let n = numbered row vars in
-    f n.0 n.1 (sym (clauses_agree vars _ _ n.2 cs) ∙ to row p) (sym (all_true_agree vars _ _ n.2 a known) ∙ t)
-found_answers m vars cs a to from known (Some n) f = (from (row_of n) f.0, f.1)
+    f n.0 n.1 (sym (clauses_agree vars _ _ n.2 cs inside) ∙ to row p) (sym (all_true_agree vars _ _ n.2 a known) ∙ t)
+found_answers m vars cs a to from inside known (Some n) f = (from (row_of n) f.0, f.1)
 
 -- the masks of the assumed literals, tested in a row, tell whether each of these is true there
-pub wanted_tested : (vars n : ℕ) (a : List ℤ) (c : Clause) (t : Bool) → Means vars a c → (within vars c ≡ true → t ≡ not (clause_true vars (inverse (row_of n)) c)) → t ≡ all_true (row_of n) a
-wanted_tested vars n a c t m h = h m.inside ∙ ap not (m.says (inverse (row_of n))) ∙ sym (all_true_inverse (row_of n) a)
+pub wanted_tested : (vars n : ℕ) (a : List ℤ) (c : Clause) → Means vars a c → not (clause_true (inverse (row_of n)) c) ≡ all_true (row_of n) a
+wanted_tested vars n a c m = ap not (m.says (inverse (row_of n))) ∙ sym (all_true_inverse (row_of n) a)
 
--- a walker with the same variables and clauses in use allows the same rows
-pub allowed_alike : (v v' n n' : ℕ) (cs cs' : List Clause) → v' ≡ v → n' ≡ n → cs' ≡ cs → (row : Row) → all (clause_true v' row) (take n' cs') ≡ all (clause_true v row) (take n cs)
-allowed_alike v v' n n' cs cs' e f g row = ap (λ x. all (clause_true x row) (take n' cs')) e ∙ ap (λ x. all (clause_true v row) (take x cs')) f ∙ ap (λ x. all (clause_true v row) (take n x)) g
+-- the tests of the walk on the row of a number
+abbrev pub passes : List Clause → Clause → ℕ → Bool
+passes cs w n = not (clause_true (inverse (row_of n)) w) && list_all (clause_true (row_of n)) cs
+
+-- the first number that passes is that of a row sought; if none passes, no such row is
+pub found_first : (vars : ℕ) (cs : List Clause) (a : List ℤ) (w : Clause) → Means vars a w → (o : Option ℕ) → (let ns = range_with_len 0 (2 ^ vars) in MatchOption o (AllWithin (λ n. passes cs w n ≡ false) ns 0 (length ns)) (λ n. (passes cs w n ≡ true) × (i : ℕ) × (i < length ns) × HoldsAt (λ m. m ≡ n) ns i × AllWithin (λ n. passes cs w n ≡ false) ns 0 i)) → Found vars cs a o
+found_first vars cs a w m None f = λ n l h t.
+    let there = f n 0 (omega arith) (rw (length-range_with_len 0 (2 ^ vars)) l) in
+    let e : get_or (range_with_len 0 (2 ^ vars)) n 0 ≡ n = get_or-range_with_len 0 (2 ^ vars) n 0 l ∙ omega arith in
+    true≢false (sym (and_from _ _ (wanted_tested vars n a w m ∙ t) h) ∙ ap (passes cs w) (sym e) ∙ there)
+found_first vars cs a w m (Some n) f = let r = and_parts _ _ f.0 in (r.1, sym (wanted_tested vars n a w m) ∙ r.0)
+
+-- one clause more, behind those in use
+pub all_pushed : {X : Type 0} (p : X → Bool) (xs ys : List X) (x : X) → ys ≡ xs ++ x ∷ [] → list_all p ys ≡ (list_all p xs && p x)
+all_pushed p xs ys x e = ap (list_all p) e ∙ list_all-append p xs (x ∷ []) ∙ ap (λ b. list_all p xs && b) (and-true (p x))

@@ -2,9 +2,10 @@
 ghost use Rattle.solver.specs.Meaning.{New};
 ghost use Rattle.row_walker.specs.Stands.{stands, bounded};
 
-use super::RowWalker;
-use super::clause::Clause;
-use super::walk::first_row;
+use crate::clause::Clause;
+use crate::walk::first_row;
+use crate::{FULL, RowWalker};
+use inline_list::InlineList;
 use solver::{Solver, SolverFault, all_named, price};
 
 impl RowWalker {
@@ -14,9 +15,8 @@ impl RowWalker {
     {
         RowWalker {
             vars: 0,
-            room: 256,
-            count: 0,
-            clauses: [Clause::EMPTY; 256],
+            room: FULL,
+            clauses: InlineList::none(Clause::default()),
             shown: None,
         }
     }
@@ -38,7 +38,7 @@ impl Solver for RowWalker {
     }
 
     fn full_room(&self) -> usize {
-        self.clauses.len()
+        FULL
     }
 
     fn begin(&mut self, vars: usize) -> Result<(), SolverFault> {
@@ -46,7 +46,7 @@ impl Solver for RowWalker {
             return Err(SolverFault::TooManyVariables);
         }
         self.vars = vars;
-        self.count = 0;
+        self.clauses.clear();
         self.room = self.full_room();
         self.shown = None;
         Ok(())
@@ -71,7 +71,7 @@ impl Solver for RowWalker {
         if !all_named(self.vars, assumed) {
             return Err(SolverFault::UnknownVariable);
         }
-        let found = first_row(self.vars, &self.clauses[0..self.count], assumed);
+        let found = first_row(self.vars, self.clauses.as_slice(), assumed);
         Ok(self.show(found))
     }
 

@@ -1,8 +1,9 @@
 // A solver that counts through the rows: slow, short, and of another make than a search.
 #![tactic(auto)]
 
-ghost use Rattle.std.specs.Prelude.{◌≡◌, ◌+◌, ◌≤◌, true, length, take};
-ghost use Rattle.solver.specs.Lists.{all};
+ghost use Rattle.std.specs.Prelude.{◌≡◌, ◌+◌, ◌≤◌, true, length};
+ghost use Rattle.std.specs.List.{list_all};
+ghost use Rattle.inline_list.specs.Listed.{listed};
 ghost use Rattle.row_walker.specs.Masks.{within};
 
 mod calls;
@@ -11,14 +12,19 @@ mod clause;
 mod walk;
 
 use clause::Clause;
+use inline_list::InlineList;
 
-// The first count clauses are in use; a row is shown by its number.
+// The room of a walker without clauses; each clause costs at least 1.
+const FULL: usize = 256;
+
+// A row is shown by its number.
 #[derive(Drop)]
 pub struct RowWalker {
     vars: usize,
     room: usize,
-    count: usize,
-    clauses: [Clause; 256],
+    clauses: InlineList<Clause, FULL>,
     shown: Option<u32>,
-    ghost ok: { (vars ≤ 24) × (count + room ≤ 256) × (all (within vars) (take count clauses) ≡ true) × (length clauses ≡ 256) },
+    ghost in_range: { vars ≤ 24 },
+    ghost charged: { length (listed clauses) + room ≤ 256 },
+    ghost inside: { list_all (within vars) (listed clauses) ≡ true },
 }

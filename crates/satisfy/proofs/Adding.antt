@@ -5,7 +5,7 @@ use Rattle.std.proofs.lemmas.Bool.{and_from, and_parts, true≢false}
 use Rattle.solver.specs.Rows.{Row, some_true, all_named, price}
 use Rattle.solver.specs.Meaning.{Meaning, Added}
 use Rattle.solver.specs.Refusals.{asked, add_refusal}
-use Rattle.solver.proofs.Lists.{all_append}
+use Rattle.std.proofs.lemmas.List.Folds.{list_all-append}
 use Rattle.satisfy.specs.Clauses.{Clauses, every_true, prices, adds_refusal, Narrowed}
 
 prices_append : (xs ys : Clauses) → prices (xs ++ ys) ≡ prices xs + prices ys
@@ -17,7 +17,7 @@ narrowed_push m n k cs c h a =
     let one = prices_append cs (c ∷ []) in
     let was = h.room in
     let is = a.room in
-    let split = λ (row : Row). all_append (λ (x : Bor (List ℤ)). some_true row x.now) cs (c ∷ []) in
+    let split = λ (row : Row). list_all-append (λ (x : Bor (List ℤ)). some_true row x.now) cs (c ∷ []) in
     record {
       sizes = a.sizes ∙ h.sizes;
       vars = a.vars ∙ h.vars;

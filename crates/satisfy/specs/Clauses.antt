@@ -7,7 +7,7 @@
 --   Partly         what a refusal in between leaves: the clauses before the refused one are added
 use Rattle.std.specs.Prelude.{◌≡◌, ℕ, ◌+◌, ◌-◌, ◌<◌, Bool, true, List, [], ◌∷◌, length, take, ℤ, None, Option, nat_le}
 use Rattle.std.specs.Borrow.{Bor}
-use Rattle.solver.specs.Lists.{all}
+use Rattle.std.specs.List.{list_all}
 use Rattle.solver.specs.Rows.{Row, some_true, all_named, price}
 use Rattle.solver.specs.Meaning.{Meaning, Sizes}
 use Rattle.solver.specs.Refusals.{asked}
@@ -16,7 +16,7 @@ abbrev pub Clauses : Type 0
 Clauses = List (Bor (List ℤ))
 
 abbrev pub every_true : Row → Clauses → Bool
-every_true row = all (λ c. some_true row c.now)
+every_true row = list_all (λ c. some_true row c.now)
 
 abbrev pub prices : Clauses → ℕ
 prices [] = 0

@@ -27,10 +27,7 @@ fn value_or<S: Solver>(solver: &S, i: usize, old: bool) -> bool
     requires fits { i + 1 < 2 ^ 64 }
     ensures { result ≡ read_at (S.meaning solver.now).vars (S.meaning solver.now).shown i old }
 {
-    match solver.value(i + 1) {
-        Ok(value) => value,
-        Err(_) => old,
-    }
+    solver.value(i + 1).unwrap_or(old)
 }
 
 // Reads the row shown: place i gets the value of variable i + 1.
@@ -38,8 +35,8 @@ pub fn read_row<S: Solver>(solver: &S, row: &mut [bool])
     requires { S.sound solver.now }
     ensures { Read (S.meaning solver.now).vars (S.meaning solver.now).shown row.old row.new }
 {
-    for i in 0..row.len() {
-        row[i] = value_or(solver, i, row[i]);
+    for (i, value) in row.iter_mut().enumerate() {
+        *value = value_or(solver, i, *value);
     }
 }
 
@@ -77,8 +74,7 @@ pub fn answer_alike<A: Solver, B: Solver>(
     requires second { B.Solver.sound second.old }
     ensures { IfOk result (λ alike. alike ≡ true) }
 {
-    let mut unread = [false; 0];
-    let one = satisfy(first, vars, clauses, assumed, &mut unread)?;
-    let other = satisfy(second, vars, clauses, assumed, &mut unread)?;
+    let one = satisfy(first, vars, clauses, assumed, &mut [])?;
+    let other = satisfy(second, vars, clauses, assumed, &mut [])?;
     Ok(one == other)
 }

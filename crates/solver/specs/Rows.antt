@@ -6,7 +6,7 @@
 --   price                 what a clause of so many literals takes of the room
 --   Agree                 two rows have the same values at the variables 1 to vars
 use Rattle.std.specs.Prelude.{◌≡◌, ℕ, suc, ◌-◌, ◌≤◌, Bool, cond, not, ◌&&◌, List, ℤ, pos, negsuc, nat_le, nat_lt, unsigned_abs}
-use Rattle.solver.specs.Lists.{all, any}
+use Rattle.std.specs.List.{list_all, list_any}
 
 abbrev pub Row : Type 0
 Row = ℕ → Bool
@@ -16,16 +16,16 @@ holds row (pos n) = row n
 holds row (negsuc n) = not (row (suc n))
 
 abbrev pub some_true : Row → List ℤ → Bool
-some_true row = any (holds row)
+some_true row = list_any (holds row)
 
 abbrev pub all_true : Row → List ℤ → Bool
-all_true row = all (holds row)
+all_true row = list_all (holds row)
 
 abbrev pub named : ℕ → ℤ → Bool
 named vars x = nat_lt 0 (unsigned_abs x) && nat_le (unsigned_abs x) vars
 
 abbrev pub all_named : ℕ → List ℤ → Bool
-all_named vars = all (named vars)
+all_named vars = list_all (named vars)
 
 -- 1 up to three literals, otherwise two less than their number: so many clauses of three literals say the same
 abbrev pub price : ℕ → ℕ

@@ -1,9 +1,9 @@
-// Why a solver refuses a call.
+// Why a solver refuses a call, each with the number by which users know it.
 #[derive(Clone, Copy, PartialEq, Eq, Debug)]
 pub enum SolverFault {
-    TooManyVariables,
-    UnknownVariable,
-    TooLong,
-    NoRoom,
-    NoValue,
+    TooManyVariables = 20,
+    UnknownVariable = 21,
+    TooLong = 22,
+    NoRoom = 23,
+    NoValue = 24,
 }

@@ -3,7 +3,7 @@ ghost use Rattle.std.specs.Prelude.{◌≡◌, IfOk, MatchResult};
 ghost use Rattle.solver.specs.Meaning.{Meaning, Bounded, Begun, Added, Solved};
 ghost use Rattle.solver.specs.Refusals.{refusal, begin_refusal, add_refusal, solve_refusal, value_refusal, Shows};
 
-use super::SolverFault;
+use crate::SolverFault;
 
 pub trait Solver {
     // What the solver stands for.

@@ -3,20 +3,14 @@ ghost use Rattle.std.specs.Prelude.{◌≡◌};
 ghost use Rattle.solver.specs.Rows.{named, all_named, price as price_of};
 ghost use Rattle.solver.specs.Refusals.{number as number_of};
 
-use super::SolverFault;
+use crate::SolverFault;
 
 impl SolverFault {
     // The number by which users know a refusal.
     pub fn number(self) -> u8
         ensures { result ≡ number_of self }
     {
-        match self {
-            SolverFault::TooManyVariables => 20,
-            SolverFault::UnknownVariable => 21,
-            SolverFault::TooLong => 22,
-            SolverFault::NoRoom => 23,
-            SolverFault::NoValue => 24,
-        }
+        self as u8
     }
 }
 
@@ -32,12 +26,7 @@ pub fn is_named(vars: usize, literal: i32) -> bool
 pub fn all_named(vars: usize, literals: &[i32]) -> bool
     ensures { result ≡ all_named vars literals.now }
 {
-    for literal in literals {
-        if !is_named(vars, *literal) {
-            return false;
-        }
-    }
-    true
+    literals.iter().all(|literal| is_named(vars, *literal))
 }
 
 // The price of a clause of so many literals.

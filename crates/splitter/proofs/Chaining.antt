@@ -1,6 +1,7 @@
 -- A chain that is handed on three by three.
 use Rattle.std.proofs.Common.{◌≡◌, ℕ, zero, suc, ◌+◌, ◌<◌, ◌≤◌, Bool, true, false, not, ◌&&◌, ◌||◌, ltb, leb, List, [], ◌∷◌, length, get_or, drop, ℤ, pos, neg_ℤ, nat_abs, sym, refl, ap, ◌∙◌, arith, drop-cons}
 use lib.Seq.{drop-length}
+use Rattle.std.proofs.Math.Bool.{or-false}
 use Rattle.std.proofs.lemmas.Bool.{and_from, and_parts, cond-true, le-leb, lt-ltb}
 use Rattle.solver.specs.Rows.{Row, holds, named, some_true, price}
 use Rattle.solver.specs.Meaning.{Meaning, Added}
@@ -50,16 +51,12 @@ module _ (m : Meaning) (whole : Row → Bool) (n : Meaning) (rest : Row → Bool
         shown = added.shown;
       }
 
-or_false : (b : Bool) → b ≡ (b || false)
-or_false true = refl
-or_false false = refl
-
 -- a short clause is its own three
 threes_short : (row : Row) (c : List ℤ) (last : ℕ) → length c ≤ 3 → in_threes row c last ≡ some_true row c
 threes_short row [] last l = refl
-threes_short row (x ∷ []) last l = or_false (holds row x)
-threes_short row (x ∷ (y ∷ [])) last l = ap (λ b. holds row x || b) (or_false (holds row y))
-threes_short row (x ∷ (y ∷ (z ∷ []))) last l = ap (λ b. holds row x || (holds row y || b)) (or_false (holds row z))
+threes_short row (x ∷ []) last l = sym (or-false (holds row x))
+threes_short row (x ∷ (y ∷ [])) last l = ap (λ b. holds row x || b) (sym (or-false (holds row y)))
+threes_short row (x ∷ (y ∷ (z ∷ []))) last l = ap (λ b. holds row x || (holds row y || b)) (sym (or-false (holds row z)))
 threes_short row (x ∷ (y ∷ (z ∷ (w ∷ ws)))) last l = absurd (omega arith)
 
 pub split_short : (m n : Meaning) (c : List ℤ) (last : ℕ) → length c ≤ 3 → Added m c n → Split m c last n
@@ -98,7 +95,7 @@ fresh_step xs i f head l row =
     let d : i + 1 ≡ suc i = omega arith in
     let sign : holds row (neg_ℤ (pos (f + 1))) ≡ not (row (suc f)) = holds_negation row (f + 1) (omega arith) ∙ ap (λ v. not (row v)) (sym e) in
     ap (λ r. chain row (holds row head) r f) three
-    ∙ ap (λ b. (holds row head || (holds row x || b)) && chain row (not (row (suc f))) (get_or xs (suc i) (pos 0) ∷ (get_or xs (suc (suc i)) (pos 0) ∷ rest)) (suc f)) (ap row e ∙ or_false (row (f + 1)))
+    ∙ ap (λ b. (holds row head || (holds row x || b)) && chain row (not (row (suc f))) (get_or xs (suc i) (pos 0) ∷ (get_or xs (suc (suc i)) (pos 0) ∷ rest)) (suc f)) (ap row e ∙ sym (or-false (row (f + 1))))
     ∙ ap (λ r. some_true row (head ∷ (x ∷ (pos (f + 1) ∷ []))) && chain row (not (row (suc f))) r (suc f)) (sym two ∙ ap (λ k. drop k xs) (sym d))
     ∙ ap (λ b. some_true row (head ∷ (x ∷ (pos (f + 1) ∷ []))) && chain row b (drop (i + 1) xs) (suc f)) (sym sign)
     ∙ ap (λ k. some_true row (head ∷ (x ∷ (pos (f + 1) ∷ []))) && chain row (holds row (neg_ℤ (pos (f + 1)))) (drop (i + 1) xs) k) e
@@ -118,7 +115,7 @@ chain_last xs i f head x y l ex ey row =
     let none : drop (suc (suc i)) xs ≡ [] = ap (λ k. drop k xs) end ∙ drop-length xs in
     let two = drop-cons xs i (pos 0) (omega arith) ∙ ap (λ r. get_or xs i (pos 0) ∷ r) (drop-cons xs (suc i) (pos 0) (omega arith) ∙ ap (λ r. get_or xs (suc i) (pos 0) ∷ r) none) in
     ap (λ r. chain row (holds row head) r f) two
-    ∙ ap (λ b. holds row head || (holds row (get_or xs i (pos 0)) || b)) (or_false (holds row (get_or xs (suc i) (pos 0))) ∙ ap (λ k. holds row (get_or xs k (pos 0)) || false) (sym d))
+    ∙ ap (λ b. holds row head || (holds row (get_or xs i (pos 0)) || b)) (sym (or-false (holds row (get_or xs (suc i) (pos 0)))) ∙ ap (λ k. holds row (get_or xs k (pos 0)) || false) (sym d))
     ∙ ap (λ z. holds row head || (holds row z || (holds row (get_or xs (i + 1) (pos 0)) || false))) (sym ex)
     ∙ ap (λ z. holds row head || (holds row x || (holds row z || false))) (sym ey)
 

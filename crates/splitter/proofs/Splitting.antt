@@ -1,5 +1,6 @@
 -- The threes of a clause say of the first variables what the clause says.
 use Rattle.std.proofs.Common.{◌≡◌, ℕ, suc, ◌+◌, ◌-◌, ◌≤◌, Bool, true, false, cond, not, ◌||◌, eqb, leb, List, [], ◌∷◌, length, ℤ, sym, refl, ap, ◌∙◌, ⊎_elim, arith}
+use Rattle.std.proofs.Math.Bool.{or-false}
 use Rattle.std.proofs.lemmas.Bool.{and_from, and_parts, or_left, or_cases, eq-eqb, ne_eqb, cond-true, cond-false, cond_both, leb-true, true≢false}
 use Rattle.solver.specs.Rows.{Row, Agree, holds, named, all_named, some_true, price}
 use Rattle.solver.specs.Meaning.{Meaning}
@@ -15,13 +16,10 @@ or_drop false false true t p q = q
 or_drop false false false t p q = absurd (true≢false (sym p))
 
 or_end : (a b : Bool) → (a || b) ≡ (a || (b || false))
-or_end true b = refl
-or_end false true = refl
-or_end false false = refl
+or_end a b = ap (λ x. a || x) (sym (or-false b))
 
 or_three : (h a b : Bool) → (h || (a || b)) ≡ true → (h || (a || (b || false))) ≡ true
-or_three true a b p = refl
-or_three false a b p = sym (or_end a b) ∙ p
+or_three h a b p = ap (λ x. h || x) (sym (or_end a b)) ∙ p
 
 -- a chain that holds makes the value before or one of the literals true
 chain_some : (row : Row) (h : Bool) (xs : List ℤ) (f : ℕ) → chain row h xs f ≡ true → (h || some_true row xs) ≡ true

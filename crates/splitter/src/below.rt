@@ -11,7 +11,7 @@ pub fn begin_taken<S: Solver>(below: &mut S, vars: usize)
     ensures sound { S.Solver.sound below.new }
     ensures begun { Begun (S.Solver.meaning below.old) vars (S.Solver.meaning below.new) }
 {
-    let _ = below.begin(vars);
+    below.begin(vars).unwrap();
 }
 
 pub fn add_taken<S: Solver>(below: &mut S, clause: &[i32])
@@ -20,7 +20,7 @@ pub fn add_taken<S: Solver>(below: &mut S, clause: &[i32])
     ensures sound { S.Solver.sound below.new }
     ensures added { Added (S.Solver.meaning below.old) clause.now (S.Solver.meaning below.new) }
 {
-    let _ = below.add(clause);
+    below.add(clause).unwrap();
 }
 
 pub fn solve_taken<S: Solver>(below: &mut S, assumed: &[i32]) -> bool
@@ -29,8 +29,5 @@ pub fn solve_taken<S: Solver>(below: &mut S, assumed: &[i32]) -> bool
     ensures sound { S.Solver.sound below.new }
     ensures solved { Solved (S.Solver.meaning below.old) assumed.now result (S.Solver.meaning below.new) }
 {
-    match below.solve(assumed) {
-        Ok(answer) => answer,
-        Err(_) => unreachable(),
-    }
+    below.solve(assumed).unwrap()
 }

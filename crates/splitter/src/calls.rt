@@ -4,10 +4,10 @@ ghost use Rattle.solver.specs.Meaning.{Begun, New};
 ghost use Rattle.splitter.specs.Sizes.{full_over, sizes_over};
 ghost use Rattle.splitter.specs.Stands.{over, bounded, Sound};
 
-use super::Splitter;
-use super::account::Account;
-use super::below::{begin_taken, solve_taken};
-use super::threes::add_in_threes;
+use crate::Splitter;
+use crate::account::Account;
+use crate::below::{begin_taken, solve_taken};
+use crate::threes::add_in_threes;
 use solver::{Solver, SolverFault, all_named, price};
 
 // The full room over a solver.

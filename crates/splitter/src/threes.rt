@@ -1,10 +1,10 @@
 // A clause handed on in threes.
-ghost use Rattle.std.specs.Prelude.{◌≡◌, ◌+◌, ◌-◌, ◌≤◌, true, [], ◌∷◌, length, pos, neg_ℤ};
+ghost use Rattle.std.specs.Prelude.{◌≡◌, ◌+◌, ◌-◌, ◌≤◌, true, [], ◌∷◌, length, pos};
 ghost use Rattle.solver.specs.Rows.{all_named, price};
 ghost use Rattle.solver.specs.Meaning.{Added};
 ghost use Rattle.splitter.specs.Chains.{Split};
 
-use super::below::add_taken;
+use crate::below::add_taken;
 use solver::Solver;
 
 // Adds a clause of three literals, for which there is room.
@@ -26,14 +26,6 @@ fn literal(variable: usize) -> i32
     variable as i32
 }
 
-// The negated literal of a variable.
-fn negation(variable: usize) -> i32
-    requires { variable ≤ 2147483647 }
-    ensures { result ≡ neg_ℤ (pos variable) }
-{
-    -(variable as i32)
-}
-
 // Adds a clause of four literals or more in threes, its fresh variables being those after last.
 fn add_chain<S: Solver>(below: &mut S, clause: &[i32], last: usize)
     requires sound { S.Solver.sound below.old }
@@ -47,10 +39,12 @@ fn add_chain<S: Solver>(below: &mut S, clause: &[i32], last: usize)
     let len = clause.len();
     let mut head = clause[0];
     let mut fresh = last;
-    for i in 1..len - 2 {
+    let middle = &clause[1..len - 2];
+    for next in middle {
         fresh += 1;
-        add_three(below, head, clause[i], literal(fresh));
-        head = negation(fresh);
+        let link = literal(fresh);
+        add_three(below, head, *next, link);
+        head = -link;
     }
     add_three(below, head, clause[len - 2], clause[len - 1]);
 }

@@ -1,5 +1,6 @@
 -- The states of a search.
 --   values_of     the values, the trail and the marks of open decisions of a state
+--   mark_of       the number that marks an entry: 1 for an open decision, 0 otherwise
 --   Same          two states have the same clauses
 --   Sought        the rows that a search looks for: allowed, with each assumed literal true
 --   Backtracked   where backtracking from len entries ends: at the last open decision p, with the values of the entries before it, and its own unset
@@ -10,6 +11,8 @@ use Rattle.assignment.specs.Stored.{Wanted}
 use Rattle.assignment.specs.Assignment.{val}
 use Rattle.assignment.specs.Trail.{Recorded, NoOpen, Closed, is_open}
 use Rattle.ternary.specs.declared.TernarySearch.{TernarySearch}
+use Rattle.ternary.specs.declared.trail.Mark.{Mark}
+use Rattle.ternary.specs.declared.trail.Mark.TheVariants.{Settled, Open}
 use Rattle.ternary.specs.Stands.{Sound}
 
 abbrev pub values_of : TernarySearch → List ℤ
@@ -20,6 +23,10 @@ trail_of s = s.trail.now
 
 abbrev pub decisions_of : TernarySearch → List ℤ
 decisions_of s = s.decisions.now
+
+abbrev pub mark_of : Mark → ℤ
+mark_of Settled = pos 0
+mark_of Open = pos 1
 
 pub record Same (s t : TernarySearch) : Type 0 where
   pub clauses : t.clauses.now ≡ s.clauses.now

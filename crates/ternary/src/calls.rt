@@ -1,8 +1,8 @@
 // The calls of a ternary search.
 ghost use Rattle.ternary.specs.Stands.{stands, Sound, bounded};
 
-use super::TernarySearch;
-use super::storage::store_clause;
+use crate::TernarySearch;
+use crate::storage::store_clause;
 use solver::{Solver, SolverFault, all_named};
 
 impl<'a> Solver for TernarySearch<'a> {

@@ -5,8 +5,10 @@ ghost use Rattle.assignment.specs.Assignment.{row_of};
 ghost use Rattle.ternary.specs.Stands.{Sound};
 ghost use Rattle.ternary.specs.Search.{Same, Sought, values_of};
 
-use super::TernarySearch;
-use super::trail::{clear, negated};
+use crate::TernarySearch;
+use crate::status::Pace;
+use crate::step::Hints;
+use crate::trail::{Mark, clear, negated};
 use assignment::Status;
 
 impl<'a> TernarySearch<'a> {
@@ -21,33 +23,30 @@ impl<'a> TernarySearch<'a> {
         let listed = self.list_occurrences();
         clear(self.values);
         let mut len = 0;
-        let mut from = 0;
-        let mut head = 0;
-        let mut quick = false;
+        let mut hints = Hints::default();
+        let mut pace = Pace::Thorough;
         loop {
-            let next = self.next_step(assumed, quick, from, head, len);
-            from = next.from;
-            head = next.head;
+            let next = self.next_step(assumed, pace, hints, len);
+            hints = next.hints;
             match next.status {
                 Status::Satisfied => return true,
                 Status::Conflict => match self.backtrack(len) {
                     None => return false,
                     Some(p) => {
                         let literal = negated(self.trail[p]);
-                        self.assign(p, literal, 0);
+                        self.assign(p, literal, Mark::Settled);
                         len = p + 1;
-                        from = 0;
-                        head = p;
+                        hints = Hints { from: 0, head: p };
                     }
                 },
                 Status::Forced(literal) => {
-                    self.assign(len, literal, 0);
+                    self.assign(len, literal, Mark::Settled);
                     len += 1;
                 }
                 Status::Open(literal) => {
-                    self.assign(len, literal, 1);
+                    self.assign(len, literal, Mark::Open);
                     len += 1;
-                    quick = listed;
+                    pace = listed;
                 }
             }
         }

@@ -1,13 +1,17 @@
-// What a search finds when it looks at literals and clauses under the values so far.
-ghost use Rattle.std.specs.Prelude.{◌≡◌, ◌+◌, ◌-◌, ◌*◌, ◌≤◌, Bool, true, ◌||◌, length, unsigned_abs};
+// What a search finds when it looks at literals under the values so far.
+ghost use Rattle.std.specs.Prelude.{◌≡◌, ◌≤◌, Bool, true, ◌||◌, length, unsigned_abs};
 ghost use Rattle.solver.specs.Rows.{Row, all_true, all_named};
-ghost use Rattle.assignment.specs.Stored.{place_true, triple_true, StoredTrue, Between, Ranged};
+ghost use Rattle.assignment.specs.Stored.{place_true};
 ghost use Rattle.assignment.specs.Statuses.{Valued, Tells, first_finding};
-ghost use Rattle.ternary.specs.Stands.{Sound};
-ghost use Rattle.ternary.specs.Search.{Sought, values_of};
 
-use super::TernarySearch;
 use assignment::{Finding, Status, Value};
+
+// How far a scan goes on: to the first clause with an open literal, or over all clauses.
+#[derive(Clone, Copy, PartialEq, Eq)]
+pub enum Pace {
+    Quick,
+    Thorough,
+}
 
 // The value of a literal in a place; 0 is no literal, and false.
 pub fn value_of(values: &[i32], literal: i32) -> Value
@@ -30,7 +34,7 @@ pub fn value_of(values: &[i32], literal: i32) -> Value
 }
 
 // What a clause tells, given what it told without this literal.
-fn with_literal(values: &[i32], before: Status, literal: i32) -> Status
+pub fn with_literal(values: &[i32], before: Status, literal: i32) -> Status
     requires { unsigned_abs literal ≤ length values.now }
     ensures { (f : Row → Bool) → Tells values.now (λ row. f row ≡ true) before → Tells values.now (λ row. (f row || place_true row literal) ≡ true) result }
 {
@@ -46,89 +50,8 @@ fn with_literal(values: &[i32], before: Status, literal: i32) -> Status
     }
 }
 
-// What a clause of three places tells.
-pub fn clause_status(values: &[i32], x: i32, y: i32, z: i32) -> Status
-    requires { (unsigned_abs x ≤ length values.now) × ((unsigned_abs y ≤ length values.now) × (unsigned_abs z ≤ length values.now)) }
-    ensures { Tells values.now (λ row. triple_true row x y z ≡ true) result }
-{
-    let one = with_literal(values, Status::Conflict, x);
-    let two = with_literal(values, one, y);
-    with_literal(values, two, z)
-}
-
-// What the clauses from .. to tell; an open literal is one of the first clause with no true literal,
-// and a quick scan ends there.
-fn scan_range(clauses: &[i32], quick: bool, from: usize, to: usize, values: &[i32]) -> Finding
-    requires room { 3 * to ≤ length clauses.now }
-    requires ranged { Ranged clauses.now to (length values.now) }
-    ensures { Tells values.now (λ row. Between row clauses.now from to) result.status }
-{
-    let mut open = 0;
-    for k in from..to {
-        match clause_status(
-            values,
-            clauses[3 * k],
-            clauses[3 * k + 1],
-            clauses[3 * k + 2],
-        ) {
-            Status::Satisfied => {}
-            Status::Conflict => return Finding {
-                status: Status::Conflict,
-                at: k,
-            },
-            Status::Forced(literal) => return Finding {
-                status: Status::Forced(literal),
-                at: k,
-            },
-            Status::Open(literal) => {
-                if quick {
-                    return Finding {
-                        status: Status::Open(literal),
-                        at: k,
-                    };
-                }
-                if open == 0 {
-                    open = literal;
-                }
-            }
-        }
-    }
-    if open == 0 {
-        Finding {
-            status: Status::Satisfied,
-            at: to,
-        }
-    } else {
-        Finding {
-            status: Status::Open(open),
-            at: to,
-        }
-    }
-}
-
-// What the first `count` clauses tell; from is where to begin, a hint.
-fn scan(clauses: &[i32], quick: bool, count: usize, values: &[i32], from: usize) -> Finding
-    requires room { 3 * count ≤ length clauses.now }
-    requires ranged { Ranged clauses.now count (length values.now) }
-    ensures { Tells values.now (λ row. StoredTrue row clauses.now count) result.status }
-{
-    let mid = from.min(count);
-    let late = scan_range(clauses, quick, mid, count, values);
-    match late.status {
-        Status::Satisfied => first_unsatisfied(scan_range(clauses, quick, 0, mid, values), late),
-        Status::Open(_) => {
-            if quick {
-                late
-            } else {
-                first_unsatisfied(scan_range(clauses, quick, 0, mid, values), late)
-            }
-        }
-        _ => late,
-    }
-}
-
 // The first of two findings, or the second if the first is that all is satisfied.
-fn first_unsatisfied(early: Finding, late: Finding) -> Finding
+pub fn first_unsatisfied(early: Finding, late: Finding) -> Finding
     ensures { result ≡ first_finding early late }
 {
     match early.status {
@@ -138,7 +61,7 @@ fn first_unsatisfied(early: Finding, late: Finding) -> Finding
 }
 
 // What the assumed literals tell.
-fn assumed_status(assumed: &[i32], values: &[i32]) -> Status
+pub fn assumed_status(assumed: &[i32], values: &[i32]) -> Status
     requires { all_named (length values.now) assumed.now ≡ true }
     ensures { Tells values.now (λ row. all_true row assumed.now ≡ true) result }
 {
@@ -150,19 +73,4 @@ fn assumed_status(assumed: &[i32], values: &[i32]) -> Status
         }
     }
     Status::Satisfied
-}
-
-impl<'a> TernarySearch<'a> {
-    // What the assumed literals tell, or else the clauses, beginning with clause from.
-    pub(crate) fn examine(&self, assumed: &[i32], quick: bool, from: usize) -> Finding
-        requires sound { Sound self.now }
-        requires named { all_named self.now.vars assumed.now ≡ true }
-        ensures { Tells (values_of self.now) (Sought self.now assumed.now) result.status }
-    {
-        let status = assumed_status(assumed, self.values);
-        match status {
-            Status::Satisfied => scan(self.clauses, quick, self.count, self.values, from),
-            _ => Finding { status, at: from },
-        }
-    }
 }

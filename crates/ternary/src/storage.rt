@@ -4,7 +4,7 @@ ghost use Rattle.solver.specs.Meaning.{New};
 ghost use Rattle.assignment.specs.Stored.{triple_set};
 ghost use Rattle.ternary.specs.Stands.{sizes_over, stands, Sound};
 
-use super::TernarySearch;
+use crate::TernarySearch;
 
 impl<'a> TernarySearch<'a> {
     // A search over a slice of numbers, as after a begin with no variables. What the slice holds does not matter.
@@ -38,7 +38,7 @@ impl<'a> TernarySearch<'a> {
 fn place(clause: &[i32], i: usize) -> i32
     ensures { result ≡ slice_index_or clause.now i (pos 0) }
 {
-    if i < clause.len() { clause[i] } else { 0 }
+    clause.get(i).copied().unwrap_or(0)
 }
 
 // Writes a clause of up to three literals behind the first count.

@@ -1,9 +1,7 @@
 -- One clause more is added, or the first that is refused ends the walk.
-use Rattle.std.proofs.Common.{◌≡◌, length, drop, Ok, sym, ap, ◌∙◌, arith, take_all, rules}
-use lib.Seq.{drop-length}
+use Rattle.std.proofs.Common.{◌≡◌, Ok, sym, ap, ◌∙◌, rules}
 use Rattle.std.proofs.lemmas.Result.{MatchResult-at_ok}
 use Rattle.solver.specs.Refusals.{refusal}
-use Rattle.satisfy.specs.Clauses.{adds_refusal}
 use Rattle.satisfy.proofs.Adding.{narrowed_more, adds_more}
 use Rattle.satisfy.proofs.add_all.Goals as goal
 
@@ -20,17 +18,3 @@ loop-clause-preserved g c =
     let a = MatchResult-at_ok _ _ tt taken c.add.ensures.cases in
     let asked = ap refusal (sym taken) ∙ c.add.ensures.refused in
     (c.add.ensures.sound, narrowed_more m n k cs i _ at h.1 a, h.2 ∙ adds_more m n cs i _ at h.1 k asked a)
-
-pub returns : goal.returns
-returns g c =
-    let m = g.S.Solver.meaning c.args.solver.now in
-    let n = g.S.Solver.meaning c.loop-clause.solver in
-    let cs = c.args.clauses.now in
-    let i = c.loop-clause.clause-index in
-    let h = c.loop-clause.invariant in
-    let past : i ≡ length cs = omega (arith, c.loop-clause-test.false, c.loop-clause.auto.clause-index-end) in
-    record {
-      refused = sym (h.2 ∙ ap (λ k. adds_refusal m.sizes m.vars n.room (drop k cs)) past ∙ ap (adds_refusal m.sizes m.vars n.room) (drop-length cs));
-      cases = rw (take_all _ _ c.loop-clause-test.false) at h.1;
-      sound = h.0;
-    }

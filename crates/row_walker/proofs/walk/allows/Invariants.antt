@@ -1,8 +1,8 @@
--- The clauses so far are true in the row.
-use Rattle.std.proofs.Common.{◌≡◌, ℕ, true, take}
-use Rattle.solver.specs.Lists.{all}
-use Rattle.row_walker.specs.Masks.{row_of, clause_true, within}
+-- The clauses left are true in the row if all are.
+use Rattle.std.proofs.Common.{◌≡◌, drop}
+use Rattle.std.specs.List.{list_all}
+use Rattle.row_walker.specs.Masks.{row_of, clause_true}
 use Rattle.row_walker.proofs.walk.allows.Given as goal
 
 abbrev pub invariant-loop-clause : goal.invariant-loop-clause
-invariant-loop-clause l = (vars : ℕ) → all (within vars) l.clauses ≡ true → all (clause_true vars (row_of l.row)) (take l.clause-index l.clauses) ≡ true
+invariant-loop-clause l = list_all (clause_true (row_of l.row)) (drop l.clause-index l.clauses) ≡ list_all (clause_true (row_of l.row)) l.clauses

@@ -1,14 +1,8 @@
 -- The solver below takes the begin, and the splitter stands for what it then is.
 use Rattle.std.proofs.Common.{◌≡◌, ℕ, sym, refl, ap, ◌∙◌, subst, arith}
 use Rattle.solver.specs.Meaning.{Begun}
-use Rattle.solver.proofs.Refusals.{begin_accepted}
 use Rattle.splitter.specs.Sizes.{full_over, sizes_over}
 use Rattle.splitter.proofs.Splitter.over.Goals as goal
-
-pub begin_taken-requires : goal.begin_taken-requires
-begin_taken-requires g c =
-    let b = g.S.Solver.meaning c.args.below in
-    record { sound = c.requires; taken = begin_accepted b c.full_over-full.result (omega (arith, c.full_over-full.ensures)) }
 
 pub returns : goal.returns
 returns g c =

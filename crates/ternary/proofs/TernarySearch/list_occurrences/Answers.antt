@@ -10,7 +10,7 @@ pub loop-e-preserved : goal.loop-e-preserved
 loop-e-preserved c =
     let g = c.loop-e.invariant.0 in
     let e = c.loop-e.invariant.1 in
-    let M : TernarySearch → Type 0 = λ t. Sound t × Same c.loop-v.self t × (c.args.self.now.vars + 3 * c.args.self.now.count ≤ length t.occurrences.now) in
+    let M : TernarySearch → Type 0 = λ t. Sound t × Same c.args.self.now t × (c.args.self.now.vars + 3 * c.args.self.now.count ≤ length t.occurrences.now) in
     elim c.if-v-gt0.branch [
       | then-v-gt0+then-v-vars w ↦ subst M (sym w.self-is) (
         record { clauses_len = g.clauses_len; values_len = g.values_len; trail_len = g.trail_len; decisions_len = g.decisions_len; counts = g.counts; in_range = g.in_range; small = g.small; literals = g.literals },

@@ -4,8 +4,5 @@ use Rattle.ternary.specs.Search.{Same}
 use Rattle.std.proofs.Common.{◌+◌, ◌≤◌, length}
 use Rattle.ternary.proofs.TernarySearch.list_occurrences.Given as goal
 
-abbrev pub invariant-loop-v : goal.invariant-loop-v
-invariant-loop-v l = Sound l.self × Same l.initial.self l.self × (l.vars + l.places ≤ length l.self.occurrences.now)
-
 abbrev pub invariant-loop-e : goal.invariant-loop-e
-invariant-loop-e l = Sound l.self × Same l.initial.self l.self × (l.vars + l.places ≤ length l.self.occurrences.now)
+invariant-loop-e l = Sound l.self × Same l.fn.self l.self × (l.vars + l.places ≤ length l.self.occurrences.now)

@@ -1,13 +1,11 @@
 -- The first turn, what each turn does with what it found, and why the search ends.
-use Rattle.std.proofs.Common.{◌≡◌, ℕ, length, get_or, pos, neg_ℤ, ap, ◌∙◌, subst, w32, SFits, to_z, of_z, rules}
+use Rattle.std.proofs.Common.{◌≡◌, length, get_or, pos, neg_ℤ, ap, ◌∙◌, subst, w32, SFits, to_z, of_z, rules}
 use Rattle.std.proofs.lemmas.Int.{to_z-of_z}
 use Rattle.std.proofs.lemmas.Bool.{true≢false}
-use Rattle.solver.specs.Rows.{all_named}
-use Rattle.assignment.specs.Assignment.{row_of}
 use Rattle.assignment.specs.Statuses.{Tells}
 use Rattle.assignment.specs.declared.Status.{Status}
-use Rattle.ternary.specs.Search.{Same, Sought, decisions_of, trail_of, values_of}
-use Rattle.ternary.proofs.Turns.{same_trans, same_sym, sought_same, turn_within, sound_same, turn_first, room_trail, room_decisions, forced, turn_assign, turn_assign_less, turn_none, turn_backtrack, backtrack_free, backtrack_forced, turn_flip_less}
+use Rattle.ternary.specs.Search.{Sought, decisions_of, trail_of, values_of}
+use Rattle.ternary.proofs.Turns.{same_trans, sought_same, sound_same, turn_first, room_trail, room_decisions, forced, turn_assign, turn_assign_less, turn_none, turn_backtrack, backtrack_free, backtrack_forced, turn_flip_less}
 use Rattle.ternary.proofs.TernarySearch.search.Goals as goal
 
 pub loop-self-init : goal.loop-self-init
@@ -25,16 +23,6 @@ loop-self-init c =
       literals = g.literals;
     }) c.clear.ensures
 
-pub next_step-next-requires : goal.next_step-next-requires
-next_step-next-requires c =
-    let inv = c.loop-self.invariant in
-    let vars : c.loop-self.self.vars ≡ c.args.self.now.vars = inv.same.vars ∙ c.list_occurrences-listed.ensures.same.vars in
-    record {
-      sound = inv.sound;
-      named = ap (λ (n : ℕ). all_named n c.args.assumed.now) vars ∙ c.requires.named;
-      within = turn_within _ _ c.loop-self.self c.loop-self.len inv;
-    }
-
 pub returns-in-None : goal.returns-in-None
 returns-in-None c =
     let inv = c.loop-self.invariant in
@@ -45,18 +33,6 @@ returns-in-None c =
       sound = sound_same c.loop-self.self c.backtrack.new.self inv.sound b.same b.values (ap length b.trail) (ap length b.decisions);
       same = record { clauses = e.clauses ∙ e₀.clauses; limit = e.limit ∙ e₀.limit; vars = e.vars ∙ e₀.vars; count = e.count ∙ e₀.count; room = e.room ∙ e₀.room };
       answer = λ row w. turn_none _ _ c.loop-self.self c.loop-self.len inv (subst (λ (t : Status). Tells (values_of c.loop-self.self) (Sought c.loop-self.self c.args.assumed.now) t) c.in-Conflict.is c.next_step-next.ensures) b.stop row (sought_same c.args.self.now c.list_occurrences-listed.new.self c.args.assumed.now e₀ row w);
-    }
-
-pub returns-in-Satisfied : goal.returns-in-Satisfied
-returns-in-Satisfied c =
-    let inv = c.loop-self.invariant in
-    let e₀ = c.list_occurrences-listed.ensures.same in
-    let e = inv.same in
-    let all : Same c.args.self.now c.loop-self.self = record { clauses = e.clauses ∙ e₀.clauses; limit = e.limit ∙ e₀.limit; vars = e.vars ∙ e₀.vars; count = e.count ∙ e₀.count; room = e.room ∙ e₀.room } in
-    record {
-      sound = inv.sound;
-      same = all;
-      answer = sought_same c.loop-self.self c.args.self.now c.args.assumed.now (same_sym c.args.self.now c.loop-self.self all) (row_of (values_of c.loop-self.self)) (subst (λ (t : Status). Tells (values_of c.loop-self.self) (Sought c.loop-self.self c.args.assumed.now) t) c.in-Satisfied.is c.next_step-next.ensures);
     }
 
 pub loop-self-smaller-in-Some : goal.loop-self-smaller-in-Some

@@ -12,9 +12,9 @@ use Rattle.row_walker.proofs.Clauses.{positive_inside, negative_inside, positive
 use Rattle.row_walker.proofs.clause.Clause.with.Goals as goal
 
 -- the shift gives the bit of the variable
-shifted : (x : ℤ) (a : ℕ) → a ≡ nat_abs x → named 24 x ≡ true → (1 * 2 ^ (a - 1)) % 4294967296 ≡ 2 ^ (nat_abs x - 1)
+shifted : (x : ℤ) (a : ℕ) → a ≡ nat_abs x → named 32 x ≡ true → (1 * 2 ^ (a - 1)) % 4294967296 ≡ 2 ^ (nat_abs x - 1)
 shifted x a e k =
-    let high = leb-true (nat_abs x) 24 (and_parts (ltb 0 (nat_abs x)) (leb (nat_abs x) 24) k).1 in
+    let high = leb-true (nat_abs x) 32 (and_parts (ltb 0 (nat_abs x)) (leb (nat_abs x) 32) k).1 in
     let small : a - 1 < 32 = omega arith in
     one_shl (a - 1) 32 small ∙ ap (λ n. 2 ^ (n - 1)) e
 
@@ -27,8 +27,8 @@ returns-then-literal-lt0 c =
     let sign : lt_z x (pos 0) ≡ true = sym (ap (λ y. lt_z y (pos 0)) same) ∙ c.if-literal-lt0.true in
     let clause : ℕ → Clause = λ b. record { positive = k.positive; negative = bit_or k.negative b } in
     record {
-      inside = λ vars le known h. ap (λ b. within vars (clause b)) bit ∙ negative_inside k x vars known h;
-      says = λ vars le known row. ap (λ b. clause_true vars row (clause b)) bit ∙ negative_says k x vars known sign row;
+      inside = λ vars known h. ap (λ b. within vars (clause b)) bit ∙ negative_inside k x vars known h;
+      says = λ row. ap (λ b. clause_true row (clause b)) bit ∙ negative_says k x c.requires sign row;
     }
 
 pub returns-else-literal-lt0 : goal.returns-else-literal-lt0
@@ -40,6 +40,6 @@ returns-else-literal-lt0 c =
     let sign : lt_z x (pos 0) ≡ false = sym (ap (λ y. lt_z y (pos 0)) same) ∙ c.if-literal-lt0.false in
     let clause : ℕ → Clause = λ b. record { positive = bit_or k.positive b; negative = k.negative } in
     record {
-      inside = λ vars le known h. ap (λ b. within vars (clause b)) bit ∙ positive_inside k x vars known h;
-      says = λ vars le known row. ap (λ b. clause_true vars row (clause b)) bit ∙ positive_says k x vars known sign row;
+      inside = λ vars known h. ap (λ b. within vars (clause b)) bit ∙ positive_inside k x vars known h;
+      says = λ row. ap (λ b. clause_true row (clause b)) bit ∙ positive_says k x c.requires sign row;
     }

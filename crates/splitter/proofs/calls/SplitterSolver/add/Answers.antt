@@ -24,13 +24,6 @@ add_in_threes-requires g c =
       room = omega (arith, s.roomy, left, cost);
     }
 
-pub charge-requires : goal.charge-requires
-charge-requires g c =
-    let w = c.args.self.now in
-    let b = g.S.Solver.bounded w.below c.requires.0 in
-    let s = c.requires.1 in
-    record { fits = omega (arith, s.enough, b.capacity, c.if-clause-width.false, c.width.ensures); paid = c.if-price-self.false }
-
 pub returns : goal.returns
 returns g c =
     let w = c.args.self.now in

@@ -6,15 +6,6 @@ use Rattle.splitter.specs.Sizes.{full_over, sizes_over}
 use Rattle.splitter.specs.Stands.{over}
 use Rattle.splitter.proofs.calls.SplitterSolver.begin.Goals as goal
 
-pub begin_taken-requires : goal.begin_taken-requires
-begin_taken-requires g c =
-    let w = c.args.self.now in
-    let m = g.S.Solver.meaning w.below in
-    let some = c.capacity.ensures in
-    let full = c.full_room-full.ensures in
-    let within = c.if-vars-capacity.false in
-    record { sound = c.requires.0; taken = begin_accepted m (c.args.vars + c.full_room-full.result) (omega arith) }
-
 pub returns : goal.returns
 returns g c =
     let w = c.args.self.now in

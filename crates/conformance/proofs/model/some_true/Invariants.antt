@@ -1,7 +1,0 @@
-use Rattle.std.proofs.Common.{◌≡◌, drop}
-use Rattle.solver.specs.Lists.{any}
-use Rattle.conformance.specs.TruthTables.{true_in}
-use Rattle.conformance.proofs.model.some_true.Given as goal
-
-abbrev pub invariant-loop-literal : goal.invariant-loop-literal
-invariant-loop-literal l = any (true_in l.row) (drop l.literal-index l.literals) ≡ any (true_in l.row) l.literals
