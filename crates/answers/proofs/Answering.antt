@@ -5,7 +5,7 @@ use Rattle.std.proofs.lemmas.List.{take_more_set, length-take-le}
 use Rattle.std.proofs.lemmas.Bool.{and_from, and_parts, not-true, cases_Bool, cases_eq, cases_lt, le-leb, lt-ltb}
 use Rattle.diagnosis.specs.Marked.{marked_from, marked}
 use Rattle.diagnosis.proofs.Marked.{marked_same}
-use Rattle.solver.specs.Lists.{all}
+use Rattle.std.specs.List.{list_all}
 use Rattle.solver.specs.Rows.{Row, holds, named, all_named, all_true}
 use Rattle.solver.specs.Meaning.{Meaning, Kept, Solved, Answered}
 use Rattle.solver.proofs.Lists.{all_append, all_at}
@@ -59,7 +59,7 @@ tried m n xs x g r e s = go r n.shown (subst (λ (y : ℤ). Answered m (xs ++ (y
     go false None a = λ row al t on. a row al (all_append (holds row) xs (pos g ∷ []) ∙ and_from _ _ t (and_from _ _ on refl))
     go false (Some row) a = absurd a
 
-pub all_each : {X : Type 0} (p : X → Bool) (xs : List X) (d : X) → ((i : ℕ) → i < length xs → p (get_or xs i d) ≡ true) → all p xs ≡ true
+pub all_each : {X : Type 0} (p : X → Bool) (xs : List X) (d : X) → ((i : ℕ) → i < length xs → p (get_or xs i d) ≡ true) → list_all p xs ≡ true
 all_each p [] d h = refl
 all_each p (x ∷ xs) d h = and_from _ _ (h 0 (omega arith)) (all_each p xs d (λ i l. h (suc i) (omega arith)))
 

@@ -3,11 +3,11 @@ use Rattle.std.proofs.Common.{◌≡◌, ℕ, zero, suc, ◌+◌, ◌≤◌, max
 use Rattle.std.specs.List.{AllByRecursion}
 use Rattle.std.proofs.lemmas.List.{length-map}
 use Rattle.std.proofs.lemmas.Bool.{and_from, and_parts, lt-ltb, le-leb}
-use Rattle.solver.specs.Lists.{all}
-use Rattle.solver.specs.Rows.{Row, holds, some_true, named, all_named}
+use Rattle.std.specs.List.{list_all}
+use Rattle.solver.specs.Rows.{Row, holds, some_true, named, all_named, price}
 use Rattle.solver.specs.Meaning.{Meaning, Sizes, Begun, Kept}
 use Rattle.cnf_theory.specs.Literals.{Literal, positive, negative, Clause, true_in, some_true_in, Holds, variable_of, integer, integers}
-use Rattle.cnf_theory.specs.Sizes.{price, prices, longest}
+use Rattle.cnf_theory.specs.Sizes.{prices, longest}
 use Rattle.answers.specs.Fed.{every_true, fitting, Narrowed, Fed}
 use Rattle.answers.specs.FedLaws.{fed_both}
 use Rattle.answers.specs.Loaded.{Filled, Loaded, Fewest}
@@ -58,7 +58,7 @@ clause_named : (V : ℕ) (c : Clause) → AllByRecursion (λ (x : Literal). (1 �
 clause_named V [] u = refl
 clause_named V (x ∷ c) u = and_from _ _ (literal_named V x u.0) (clause_named V c u.1)
 
-all_fitting : (W V : ℕ) (cs : List Clause) → Within V cs → longest cs ≤ W → all (fitting W V) (integers cs) ≡ true
+all_fitting : (W V : ℕ) (cs : List Clause) → Within V cs → longest cs ≤ W → list_all (fitting W V) (integers cs) ≡ true
 all_fitting W V [] u l = refl
 all_fitting W V (c ∷ cs) u l =
     let e = length-map c integer in
@@ -67,7 +67,7 @@ all_fitting W V (c ∷ cs) u l =
 -- ── a solver that was begun and then fed ──
 pub filled : (b n k : Meaning) (V : ℕ) (cs : List Clause) → Begun b V n → Within V cs → longest cs ≤ b.sizes.width → prices cs ≤ b.sizes.full → Fed n (integers cs) k → Filled b.sizes V (integers cs) k
 filled b n k V cs g u wide cost f =
-    let fit : (s : Sizes) (v : ℕ) → s ≡ b.sizes → v ≡ V → all (fitting s.width v) (integers cs) ≡ true = λ s v es ev. rw (es, ev) (all_fitting b.sizes.width V cs u wide) in
+    let fit : (s : Sizes) (v : ℕ) → s ≡ b.sizes → v ≡ V → list_all (fitting s.width v) (integers cs) ≡ true = λ s v es ev. rw (es, ev) (all_fitting b.sizes.width V cs u wide) in
     let r = g.room in
     let p = prices_handed cs in
     let w : Narrowed n (integers cs) k = f.narrowed (record { each = fit n.sizes n.vars g.sizes g.vars; room = omega arith }) in

@@ -5,19 +5,19 @@
 --   Narrowed     what adding them all makes of its meaning
 --   Fed          a solver that they fit has become so
 use Rattle.std.specs.Prelude.{◌≡◌, ℕ, ◌+◌, ◌≤◌, Bool, true, ◌&&◌, List, length, ℤ, nat_le}
-use Rattle.solver.specs.Lists.{all}
+use Rattle.std.specs.List.{list_all}
 use Rattle.solver.specs.Rows.{Row, some_true, all_named}
 use Rattle.solver.specs.Meaning.{Meaning}
 use Rattle.cnf_theory.specs.Sizes.{prices}
 
 abbrev pub every_true : Row → List (List ℤ) → Bool
-every_true row = all (some_true row)
+every_true row = list_all (some_true row)
 
 abbrev pub fitting : ℕ → ℕ → List ℤ → Bool
 fitting width vars c = nat_le (length c) width && all_named vars c
 
 pub record Fits (m : Meaning) (cs : List (List ℤ)) : Type 0 where
-  pub each : all (fitting m.sizes.width m.vars) cs ≡ true
+  pub each : list_all (fitting m.sizes.width m.vars) cs ≡ true
   pub room : prices cs ≤ m.room
 
 pub record Narrowed (m : Meaning) (cs : List (List ℤ)) (n : Meaning) : Type 0 where

@@ -2,11 +2,11 @@
 use Rattle.std.specs.Prelude.{◌≡◌, ℕ, ◌+◌, ◌≤◌, true, List, [], ◌∷◌, ◌++◌, length, ℤ, refl}
 use Rattle.std.proofs.Common.{sym, ap, ◌∙◌, zero-add, add-zero, add_assoc, arith}
 use Rattle.std.proofs.lemmas.Bool.{and_from, and_parts}
-use Rattle.solver.specs.Lists.{all}
-use Rattle.solver.specs.Rows.{some_true}
+use Rattle.std.specs.List.{list_all}
+use Rattle.solver.specs.Rows.{some_true, price}
 use Rattle.solver.specs.Meaning.{Meaning, Sizes}
 use Rattle.solver.proofs.Lists.{all_append}
-use Rattle.cnf_theory.specs.Sizes.{price, prices}
+use Rattle.cnf_theory.specs.Sizes.{prices}
 use Rattle.answers.specs.Fed.{fitting, Fits, Narrowed, Fed}
 
 pub prices_append : (a b : List (List ℤ)) → prices (a ++ b) ≡ prices a + prices b
@@ -26,7 +26,7 @@ fed_both m n k a b f g = record { narrowed = both }
         let q = and_parts _ _ (sym (all_append (fitting m.sizes.width m.vars) a b) ∙ h.each) in
         let x : Narrowed m a n = f.narrowed (record { each = q.0; room = omega arith }) in
         let xr : n.room + prices a ≡ m.room = x.room in
-        let same : (s : Sizes) (v : ℕ) → s ≡ m.sizes → v ≡ m.vars → all (fitting s.width v) b ≡ true = λ s v es ev. rw (es, ev) q.1 in
+        let same : (s : Sizes) (v : ℕ) → s ≡ m.sizes → v ≡ m.vars → list_all (fitting s.width v) b ≡ true = λ s v es ev. rw (es, ev) q.1 in
         let y : Narrowed n b k = g.narrowed (record { each = same n.sizes n.vars x.sizes x.vars; room = omega arith }) in
         let yr : k.room + prices b ≡ n.room = y.room in
         record {

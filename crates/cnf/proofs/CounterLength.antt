@@ -14,7 +14,7 @@ same_each f b a (suc n) h =
     let s = suc-mul n b in
     omega arith
 
-first_gate : (G N : ℕ) → length (count_at G N 1) ≡ 1
+pub first_gate : (G N : ℕ) → length (count_at G N 1) ≡ 1
 first_gate G N = ap suc (same_each (λ k. carry G N 1 k ++ step G N 1 k) 0 2 N none ∙ (let e : N * 0 ≡ 0 = omega arith in e))
   where
     none : (k : ℕ) → 2 ≤ k → length (carry G N 1 k ++ step G N 1 k) ≡ 0
@@ -22,7 +22,7 @@ first_gate G N = ap suc (same_each (λ k. carry G N 1 k ++ step G N 1 k) 0 2 N n
     none (suc zero) le = absurd (omega arith)
     none (suc (suc k)) le = refl
 
-later_gate : (G N g : ℕ) → 2 ≤ g → length (count_at G N g) ≡ suc N * 2
+pub later_gate : (G N g : ℕ) → 2 ≤ g → length (count_at G N g) ≡ suc N * 2
 later_gate G N zero le = absurd (omega arith)
 later_gate G N (suc zero) le = absurd (omega arith)
 later_gate G N (suc (suc h)) le = same_each (λ k. carry G N (suc (suc h)) k ++ step G N (suc (suc h)) k) 2 1 (suc N) two

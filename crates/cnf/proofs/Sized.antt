@@ -1,14 +1,15 @@
 -- The tally of a formula that is written counts all of it: no number is too large.
-use Rattle.std.proofs.Common.{◌≡◌, ℕ, ◌+◌, ◌^◌, ◌<◌, ◌≤◌, max, List, [], ◌∷◌, map, length, vec_items, vec_len, sym, refl, ◌∙◌, arith}
+use Rattle.std.proofs.Common.{◌≡◌, ℕ, ◌+◌, ◌^◌, ◌<◌, ◌≤◌, List, [], ◌∷◌, map, length, vec_items, vec_len, sym, ◌∙◌, arith}
 use Rattle.std.specs.List.{AllByRecursion}
 use Rattle.std.proofs.lemmas.List.{length-map}
 use Rattle.circuit.specs.Circuits.{Circuit, Sound}
 use Rattle.testlog.specs.declared.test.Test.{Test as HeldTest}
 use Rattle.testlog.specs.declared.table.TestTable.{TestTable}
 use Rattle.testlog.specs.Held.{test_of, tests_of}
-use Rattle.cnf_theory.specs.Literals.{Clause, integer, integers}
+use Rattle.cnf_theory.specs.Literals.{integers}
 use Rattle.cnf_theory.specs.Formula.{formula}
-use Rattle.cnf_theory.specs.Sizes.{price, prices, longest}
+use Rattle.cnf_theory.specs.Sizes.{prices}
+use Rattle.answers.proofs.Filling.{prices_handed, longest_handed}
 use Rattle.cnf_theory.proofs.Lengths.{FewInputs, few_clauses, prices_few, nine_at_most}
 use Rattle.cnf.specs.Tallied.{Tallied, TallyOf}
 use Rattle.cnf.specs.declared.tally.Tally.{Tally}
@@ -21,14 +22,6 @@ tests_held t = length-map (vec_items t.tests) test_of ∙ sym t.tests.ok.0
 all_few : (ts : List HeldTest) → AllByRecursion FewInputs (map test_of ts)
 all_few [] = tt
 all_few (t ∷ ts) = (inputs_few t, all_few ts)
-
-prices_handed : (cs : List Clause) → prices (integers cs) ≡ prices cs
-prices_handed [] = refl
-prices_handed (c ∷ cs) = λ j. price (length-map c integer j) + prices_handed cs j
-
-longest_handed : (cs : List Clause) → longest (integers cs) ≡ longest cs
-longest_handed [] = refl
-longest_handed (c ∷ cs) = λ j. max (length-map c integer j) (longest_handed cs j)
 
 pub sized : (c : Circuit) (t : TestTable) (N : ℕ) (before after : Tally) → Sound c → N ≤ 6 → before.count ≡ 0 → before.longest ≡ 0 → before.prices ≡ 0 → Tallied before (integers (formula c (tests_of t) N)) after → TallyOf (formula c (tests_of t) N) after
 sized c t N before after sound n x y z h =

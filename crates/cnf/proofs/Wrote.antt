@@ -1,12 +1,9 @@
 -- One piece of the walk after another.
-use Rattle.std.proofs.Common.{◌≡◌, ℕ, zero, suc, ◌+◌, List, [], ◌∷◌, ◌++◌, map, ℤ, sym, refl, ap, ◌∙◌, subst, append_assoc, append-nil, add-zero, add-one, arith}
+use Rattle.std.proofs.Common.{◌≡◌, ℕ, zero, suc, ◌+◌, List, [], ◌∷◌, ◌++◌, ℤ, sym, ap, ◌∙◌, subst, append_assoc, append-nil, add-zero, add-one, arith}
 use Rattle.std.specs.List.{flat_map}
-use Rattle.cnf_theory.specs.Literals.{Literal, Clause, integer, integers}
+use Rattle.cnf_theory.specs.Literals.{Literal, Clause, integers}
 use Rattle.cnf_theory.specs.Counter.{from}
-
-pub integers_append : (a b : List Clause) → integers (a ++ b) ≡ integers a ++ integers b
-integers_append [] b = refl
-integers_append (x ∷ a) b = ap (λ r. map integer x ∷ r) (integers_append a b)
+use Rattle.answers.proofs.Filling.{integers_append}
 
 joined_push : (f : ℕ → List Clause) (a n : ℕ) → flat_map f (from a (suc n)) ≡ flat_map f (from a n) ++ f (a + n)
 joined_push f a zero = append-nil (f a) ∙ ap f (sym (add-zero a))
@@ -29,14 +26,8 @@ module _ {K : Type 0} (took : K → List (List ℤ) → K → Type 0) (both : (s
   pub one_is : (s t : K) (x y : Literal) → took s (integers ((x ∷ []) ∷ [])) t → x ≡ y → took s (integers ((y ∷ []) ∷ [])) t
   one_is s t x y h e = rw (sym e) h
 
-  pub two_is : (s t : K) (x y x' y' : Literal) → took s (integers ((x ∷ y ∷ []) ∷ [])) t → x ≡ x' → y ≡ y' → took s (integers ((x' ∷ y' ∷ []) ∷ [])) t
-  two_is s t x y x' y' h e f = rw (sym e, sym f) h
-
   pub third_is : (s t : K) (x y z z' : Literal) → took s (integers ((x ∷ y ∷ z ∷ []) ∷ [])) t → z ≡ z' → took s (integers ((x ∷ y ∷ z' ∷ []) ∷ [])) t
   third_is s t x y z z' h e = rw (sym e) h
-
-  pub head_is : (s t : K) (x y : Literal) (r : List Literal) → took s (integers ((x ∷ r) ∷ [])) t → x ≡ y → took s (integers ((y ∷ r) ∷ [])) t
-  head_is s t x y r h e = rw (sym e) h
 
   pub four : (s t u v w : K) (a b c d : List ℤ) → took s (a ∷ []) t → took t (b ∷ []) u → took u (c ∷ []) v → took v (d ∷ []) w → took s (a ∷ b ∷ c ∷ d ∷ []) w
   four s t u v w a b c d p q r x = both s t w (a ∷ []) _ p (both t u w (b ∷ []) _ q (both u v w (c ∷ []) _ r x))

@@ -1,15 +1,12 @@
 -- Tallies of no clause, and of some clauses after others: what a sink owes.
-use Rattle.std.specs.Prelude.{◌≡◌, ◌+◌, max, List, [], ◌∷◌, ◌++◌, length, ℤ}
-use Rattle.std.proofs.Common.{sym, ap, ◌∙◌, zero-add, add_assoc, arith, length-append}
-use Rattle.cnf_theory.specs.Sizes.{price, prices, longest}
+use Rattle.std.specs.Prelude.{◌≡◌, max, List, [], ◌∷◌, ◌++◌, ℤ}
+use Rattle.std.proofs.Common.{arith, length-append}
+use Rattle.cnf_theory.specs.Sizes.{longest}
+use Rattle.answers.specs.FedLaws.{prices_append}
 use Rattle.cnf.specs.Tallied.{Tallied}
 use Rattle.cnf.specs.declared.tally.Tally.{Tally}
 
-prices_append : (a b : List (List ℤ)) → prices (a ++ b) ≡ prices a + prices b
-prices_append [] b = sym (zero-add _)
-prices_append (x ∷ a) b = ap (λ n. price (length x) + n) (prices_append a b) ∙ sym (add_assoc _ _ _)
-
-longest_append : (a b : List (List ℤ)) → longest (a ++ b) ≡ max (longest a) (longest b)
+pub longest_append : (a b : List (List ℤ)) → longest (a ++ b) ≡ max (longest a) (longest b)
 longest_append [] b = omega arith
 longest_append (x ∷ a) b = let e = longest_append a b in omega arith
 

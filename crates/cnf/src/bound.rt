@@ -10,6 +10,7 @@ pub struct Bound {
 
 impl Bound {
     // The bound of this value, which is 6 at most.
+    // Kept: an `Option`, as for std's `NonZero`: there is one reason to refuse.
     pub fn new(value: usize) -> Option<Bound>
         ensures { option_map (λ b. b.value) result ≡ (if nat_le value 6 then Some value else None) }
     {

@@ -8,13 +8,15 @@ mod formula;
 mod function;
 mod gates;
 mod literal;
+mod problem;
 mod sink;
 mod solver_sink;
 mod tally;
 mod tests;
+mod variables;
 
 pub use bound::Bound;
-pub use formula::{formula_sizes, variable_count, variables_before, write_formula};
-pub use literal::Literal;
+pub use literal::{Literal, Variable};
+pub use problem::Problem;
 pub use sink::ClauseSink;
 pub use tally::Tally;

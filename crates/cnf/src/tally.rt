@@ -1,24 +1,16 @@
 // The sizes of what is written.
-ghost use Rattle.std.specs.Prelude.{◌≡◌};
 ghost use Rattle.cnf.specs.Tallied.{Tallied};
 ghost use Rattle.cnf.specs.TalliedLaws.{tallied_none, tallied_both};
-ghost use Rattle.cnf_theory.specs.Sizes.{price as price_of};
 
 use crate::sink::ClauseSink;
+use solver::price;
 
 // How many clauses were taken, the longest, and their summed prices.
-#[derive(Clone, Copy)]
+#[derive(Clone, Copy, Default)]
 pub struct Tally {
     pub count: usize,
     pub longest: usize,
     pub prices: usize,
-}
-
-// What a clause of so many literals takes of a solver's room.
-fn price(length: usize) -> usize
-    ensures { result ≡ price_of length }
-{
-    if length <= 3 { 1 } else { length - 2 }
 }
 
 impl ClauseSink for Tally {

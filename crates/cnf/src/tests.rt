@@ -1,133 +1,104 @@
 // The clauses of one test.
-ghost use Rattle.std.specs.Prelude.{◌≡◌, ℕ, ◌+◌, ◌≤◌, List, length};
+ghost use Rattle.std.specs.Prelude.{◌≡◌, ◌≤◌, length, count_by, is_some};
 ghost use Rattle.std.specs.List.{AllByRecursion};
-ghost use Rattle.circuit.specs.declared.gate.Signal.{Signal};
 ghost use Rattle.circuit.specs.Held.{circuit_of};
 ghost use Rattle.testlog.specs.Held.{test_of};
 ghost use Rattle.cnf_theory.specs.Literals.{integers};
-ghost use Rattle.cnf_theory.specs.Formula.{input_clauses, gates_clauses, measured_clauses, output_clauses, test_clauses};
+ghost use Rattle.cnf_theory.specs.Formula.{input_clauses, measured_clauses, output_clauses, test_clauses};
 ghost use Rattle.cnf.specs.Code.{Near};
+ghost use Rattle.cnf.specs.Counted.{gates_size, outputs_size};
 
-use crate::clause::take_one;
-use crate::gates::{signal_variable, write_gates};
-use crate::literal::Literal;
+use crate::clause::take_clause;
+use crate::gates::write_gates;
 use crate::sink::ClauseSink;
+use crate::variables::TestVariables;
 use circuit::{Circuit, Signal};
 use testlog::Test;
 
 // The recorded value of each input.
-fn write_inputs<K: ClauseSink>(sink: &mut K, base: usize, inputs: &[bool])
+fn write_inputs<K: ClauseSink>(sink: &mut K, variables: TestVariables, inputs: &[bool])
     requires ready { K.ClauseSink.ready sink.old }
-    requires sizes { (base ≤ 90000) × (length inputs.now ≤ 64) }
+    requires few { length inputs.now ≤ 64 }
     ensures ready { K.ClauseSink.ready sink.new }
-    ensures took { K.ClauseSink.took sink.old (integers (input_clauses base 1 inputs.now)) sink.new }
+    ensures took { K.ClauseSink.took sink.old (integers (input_clauses variables.base 1 inputs.now)) sink.new }
 {
-    for (i, value) in inputs.iter().enumerate() {
-        take_one(sink, Literal::signed(*value, base + (i + 1)));
+    for (before, value) in inputs.iter().enumerate() {
+        take_clause(sink, [variables.input(before).with(*value)]);
     }
 }
 
 // The value measured at an output, if one was.
 fn write_measured<K: ClauseSink>(
     sink: &mut K,
-    base: usize,
-    inputs: usize,
+    variables: TestVariables,
     output: Signal,
     measured: Option<bool>,
 )
     requires ready { K.ClauseSink.ready sink.old }
-    requires sizes { (base ≤ 90000) × ((inputs ≤ 64) × (Near output)) }
+    requires near { Near output }
     ensures ready { K.ClauseSink.ready sink.new }
-    ensures took { K.ClauseSink.took sink.old (integers (measured_clauses base inputs output measured)) sink.new }
+    ensures took { K.ClauseSink.took sink.old (integers (measured_clauses variables.base variables.inputs output measured)) sink.new }
 {
     if let Some(value) = measured {
-        take_one(
-            sink,
-            Literal::signed(value, signal_variable(base, inputs, output)),
-        );
+        take_clause(sink, [variables.signal(output).with(value)]);
     }
 }
 
 // The values measured at the outputs.
 fn write_outputs<K: ClauseSink>(
     sink: &mut K,
-    base: usize,
-    inputs: usize,
+    variables: TestVariables,
     outputs: &[Signal],
     measured: &[Option<bool>],
 )
     requires ready { K.ClauseSink.ready sink.old }
-    requires sizes { (base ≤ 90000) × (inputs ≤ 64) }
     requires near { AllByRecursion Near outputs.now }
     ensures ready { K.ClauseSink.ready sink.new }
-    ensures took { K.ClauseSink.took sink.old (integers (output_clauses base inputs outputs.now measured.now)) sink.new }
+    ensures took { K.ClauseSink.took sink.old (integers (output_clauses variables.base variables.inputs outputs.now measured.now)) sink.new }
 {
-    let count = outputs.len().min(measured.len());
-    for i in 0..count {
-        write_measured(sink, base, inputs, outputs[i], measured[i]);
+    for (output, value) in outputs.iter().zip(measured) {
+        write_measured(sink, variables, *output, *value);
     }
 }
 
-// How many clauses an output has: one if it was measured.
-fn output_clause_count(measured: Option<bool>) -> usize
-    ensures clauses { (B I : ℕ) (o : Signal) → length (measured_clauses B I o measured) ≡ result }
-    ensures few { result ≤ 1 }
+// How many values were measured.
+fn measured_count(values: &[Option<bool>]) -> usize
+    requires { length values.now ≤ 64 }
+    ensures { result ≡ count_by is_some values.now }
 {
-    match measured {
-        Some(_) => 1,
-        None => 0,
-    }
+    values
+        .iter()
+        .map(|value| usize::from(value.is_some()))
+        .sum()
 }
 
-// How many clauses the outputs have.
+// How many clauses the outputs have: one for each that was measured.
 fn outputs_clause_count(outputs: &[Signal], measured: &[Option<bool>]) -> usize
-    ensures clauses { (B I : ℕ) → length (output_clauses B I outputs.now measured.now) ≡ result }
-    ensures few { result ≤ length outputs.now }
+    requires { length outputs.now ≤ 64 }
+    ensures { result ≡ outputs_size outputs.now measured.now }
 {
-    let mut found = 0;
-    let count = outputs.len().min(measured.len());
-    for i in 0..count {
-        found += output_clause_count(measured[i]);
-    }
-    found
+    measured_count(&measured[..outputs.len().min(measured.len())])
 }
 
-// The inputs, the gates, and the outputs that were measured.
-fn write_test<K: ClauseSink>(sink: &mut K, base: usize, circuit: &Circuit, test: &Test)
-    requires ready { K.ClauseSink.ready sink.old }
-    requires sizes { base ≤ 90000 }
-    ensures ready { K.ClauseSink.ready sink.new }
-    ensures took { K.ClauseSink.took sink.old (integers (test_clauses (circuit_of circuit.now) base (test_of test.now))) sink.new }
-{
-    write_inputs(sink, base, test.inputs());
-    write_gates(sink, base, circuit.inputs(), circuit.gates());
-    write_outputs(
-        sink,
-        base,
-        circuit.inputs(),
-        circuit.outputs(),
-        test.outputs(),
-    );
-}
-
-// The same, unless the sink passes them; `gates` is how many clauses the gates have.
-pub(crate) fn write_test_or_pass<K: ClauseSink>(
+// The inputs, the gates, and the outputs that were measured, unless the sink passes them; `gates` is how many clauses the gates have.
+pub(crate) fn write_test<K: ClauseSink>(
     sink: &mut K,
-    base: usize,
+    variables: TestVariables,
     circuit: &Circuit,
     gates: usize,
     test: &Test,
 )
     requires ready { K.ClauseSink.ready sink.old }
-    requires sizes { (base ≤ 90000) × (gates ≤ 3328) }
-    requires gates { (B I : ℕ) → length (gates_clauses B I 1 (circuit_of circuit.now).gates) ≡ gates }
+    requires inputs { variables.inputs ≡ (circuit_of circuit.now).inputs }
+    requires gates { gates ≡ gates_size (circuit_of circuit.now).gates }
     ensures ready { K.ClauseSink.ready sink.new }
-    ensures took { K.ClauseSink.took sink.old (integers (test_clauses (circuit_of circuit.now) base (test_of test.now))) sink.new }
+    ensures took { K.ClauseSink.took sink.old (integers (test_clauses (circuit_of circuit.now) variables.base (test_of test.now))) sink.new }
 {
-    let count = test.inputs().len()
-        + gates
-        + outputs_clause_count(circuit.outputs(), test.outputs());
-    if !sink.pass(count) {
-        write_test(sink, base, circuit, test);
+    let outputs = outputs_clause_count(circuit.outputs(), test.outputs());
+    if sink.pass(test.inputs().len() + gates + outputs) {
+        return;
     }
+    write_inputs(sink, variables, test.inputs());
+    write_gates(sink, variables, circuit.gates());
+    write_outputs(sink, variables, circuit.outputs(), test.outputs());
 }

@@ -5,7 +5,7 @@ use Rattle.std.specs.List.{flat_map}
 use Rattle.std.proofs.lemmas.Bool.{eqb-true}
 use Rattle.circuit.specs.declared.kind.Kind.{Kind}
 use Rattle.circuit.specs.declared.kind.Kind.TheVariants.{And, Or, Nand, Nor, Xor, Xnor, Not}
-use Rattle.circuit.specs.Lists.{all, any}
+use Rattle.std.specs.List.{list_all, list_any}
 use Rattle.circuit.specs.Kinds.{takes, gives}
 use Rattle.cnf_theory.specs.Literals.{Row, Clause, signed, true_in, some_true_in, Holds}
 use Rattle.cnf_theory.specs.Gates.{conjunction, rows, excluding, tabled, function}
@@ -14,7 +14,7 @@ use Rattle.cnf_theory.proofs.Clauses.{holds_left, holds_right, holds_both, sign_
 -- ── a conjunction of literals ──
 -- whether the literals of all operands are true
 abbrev every : Row → Bool → List ℕ → Bool
-every ρ y xs = all (λ a. true_in ρ (signed y a)) xs
+every ρ y xs = list_all (λ a. true_in ρ (signed y a)) xs
 
 -- (-x, y) for each operand: where x is true, every y is
 each_sound : (ρ : Row) (x y : Bool) (l : ℕ) (xs : List ℕ) → Holds ρ (map (λ a. signed (not x) l ∷ signed y a ∷ []) xs) → true_in ρ (signed x l) ≡ true → every ρ y xs ≡ true
@@ -116,15 +116,15 @@ tabled_says ρ f l xs =
 abbrev same : Bool → Bool
 same b = b
 
-all_values : (ρ : Row) (xs : List ℕ) → every ρ true xs ≡ all same (map ρ xs)
+all_values : (ρ : Row) (xs : List ℕ) → every ρ true xs ≡ list_all same (map ρ xs)
 all_values ρ [] = refl
 all_values ρ (a ∷ xs) = ap (λ b. ρ a && b) (all_values ρ xs)
 
-none_of : (ρ : Row) (xs : List ℕ) → every ρ false xs ≡ not (any same (map ρ xs))
+none_of : (ρ : Row) (xs : List ℕ) → every ρ false xs ≡ not (list_any same (map ρ xs))
 none_of ρ [] = refl
 none_of ρ (a ∷ xs) = go (ρ a) (none_of ρ xs)
   where
-    go : (v : Bool) → every ρ false xs ≡ not (any same (map ρ xs)) → not v && every ρ false xs ≡ not (v || any same (map ρ xs))
+    go : (v : Bool) → every ρ false xs ≡ not (list_any same (map ρ xs)) → not v && every ρ false xs ≡ not (v || list_any same (map ρ xs))
     go true e = refl
     go false e = e
 

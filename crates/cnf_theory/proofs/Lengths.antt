@@ -15,7 +15,8 @@ use Rattle.cnf_theory.specs.Counter.{from, carry, step, count_at, counter, limit
 use Rattle.cnf_theory.specs.Gates.{conjunction, rows, excluding, function, selection}
 use Rattle.cnf_theory.specs.Formula.{input_clauses, gates_clauses, measured_clauses, output_clauses, test_clauses, tests_clauses, formula}
 use Rattle.cnf_theory.specs.FormulaLaws.{NineAtMost}
-use Rattle.cnf_theory.specs.Sizes.{price, prices}
+use Rattle.solver.specs.Rows.{price}
+use Rattle.cnf_theory.specs.Sizes.{prices}
 use Rattle.cnf_theory.proofs.TestSound.{gate_takes, takes_mapped}
 
 abbrev pub Short : Clause → Type 0

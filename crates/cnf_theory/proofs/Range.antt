@@ -7,7 +7,7 @@ use Rattle.circuit.specs.declared.kind.Kind.{Kind}
 use Rattle.circuit.specs.declared.kind.Kind.TheVariants.{And, Or, Nand, Nor, Xor, Xnor, Not}
 use Rattle.circuit.specs.declared.gate.Signal.{Signal}
 use Rattle.circuit.specs.declared.gate.Signal.TheVariants as signal
-use Rattle.circuit.specs.Lists.{all}
+use Rattle.std.specs.List.{list_all}
 use Rattle.circuit.specs.Kinds.{gives}
 use Rattle.circuit.specs.Circuits.{Gate, Circuit, there, wired, Sound}
 use Rattle.circuit.specs.Tests.{Test, FitsTest}
@@ -75,9 +75,9 @@ module _ (P : ℕ → Type 0) where
     signal-in m le (signal.Gate zero) t = absurd (let e = leb-true 1 0 (and_parts (leb 1 0) (leb 0 m) t).0 in omega arith)
     signal-in m le (signal.Gate (suc g)) t = let e = leb-true (suc g) m (and_parts (leb 1 (suc g)) (leb (suc g) m) t).1 in gates g 3 (omega arith) (omega arith) (omega arith)
 
-    signals-in : (m : ℕ) → m ≤ G → (xs : List Signal) → all (there I m) xs ≡ true → AllByRecursion P (map (signal_variable B I) xs)
+    signals-in : (m : ℕ) → m ≤ G → (xs : List Signal) → list_all (there I m) xs ≡ true → AllByRecursion P (map (signal_variable B I) xs)
     signals-in m le [] t = tt
-    signals-in m le (x ∷ xs) t = let p = and_parts (there I m x) (all (there I m) xs) t in (signal-in m le x p.0, signals-in m le xs p.1)
+    signals-in m le (x ∷ xs) t = let p = and_parts (there I m x) (list_all (there I m) xs) t in (signal-in m le x p.0, signals-in m le xs p.1)
 
     inputs_in : (n : ℕ) (bs : List Bool) → 1 ≤ n → n + length bs ≤ suc I → Each (input_clauses B n bs)
     inputs_in n [] a b = tt
@@ -97,11 +97,11 @@ module _ (P : ℕ → Type 0) where
         ((s, (l, (z, tt))), ((s, (l, (z, tt))), ((s, (w, (z, tt))), ((s, (w, (z, tt))), tt)))))
         (gates-in gs (suc m) (omega arith) fit.2)
 
-    outputs-in : (os : List Signal) (ms : List (Option Bool)) → all (there I G) os ≡ true → Each (output_clauses B I os ms)
+    outputs-in : (os : List Signal) (ms : List (Option Bool)) → list_all (there I G) os ≡ true → Each (output_clauses B I os ms)
     outputs-in [] ms t = tt
     outputs-in (o ∷ os) [] t = tt
-    outputs-in (o ∷ os) (None ∷ ms) t = outputs-in os ms (and_parts (there I G o) (all (there I G) os) t).1
-    outputs-in (o ∷ os) (Some b ∷ ms) t = let p = and_parts (there I G o) (all (there I G) os) t in ((of_signed b (signal_variable B I o) (signal-in G (omega arith) o p.0), tt), outputs-in os ms p.1)
+    outputs-in (o ∷ os) (None ∷ ms) t = outputs-in os ms (and_parts (there I G o) (list_all (there I G) os) t).1
+    outputs-in (o ∷ os) (Some b ∷ ms) t = let p = and_parts (there I G o) (list_all (there I G) os) t in ((of_signed b (signal_variable B I o) (signal-in G (omega arith) o p.0), tt), outputs-in os ms p.1)
 
 abbrev pub UpTo : ℕ → ℕ → Type 0
 UpTo V v = (1 ≤ v) × (v ≤ V)

@@ -4,7 +4,7 @@ use mathlib.Core.Bool.{beq}
 use Rattle.std.proofs.lemmas.List.{get_or_append_left, get_or_push, length_push}
 use Rattle.std.proofs.lemmas.Bool.{and_parts}
 use Rattle.circuit.specs.declared.gate.Signal.{Signal}
-use Rattle.circuit.specs.Lists.{all}
+use Rattle.std.specs.List.{list_all}
 use Rattle.circuit.specs.Kinds.{gives}
 use Rattle.circuit.specs.Circuits.{Gate, Circuit, there, wired}
 use Rattle.circuit.specs.Tests.{Test, FitsTest}
@@ -60,12 +60,12 @@ module _ (c : Circuit) (s w : ℕ → Bool) (t : Test) (ρ : Row) (B : ℕ) (R :
       (holds_both ρ (function g.kind l xs) _ ((function_says ρ g.kind l xs (takes_mapped B I g fit.0)).1 (lis ∙ ap (gives g.kind) operands)) (selection_complete (ρ n) (ρ l) (ρ (forced_variable B I n)) (ρ (value_variable B I n)) selected))
       (gates_complete gs (suc m) (vs ++ v ∷ []) (omega arith) (length_push vs v ∙ omega arith) fit.2 e (λ j lt. ap (λ i. ρ (computed_variable B I (suc i))) (suc-add m j ∙ sym (add-suc m j)) ∙ ls (suc j) (omega arith)))
 
-  outputs_complete : (os : List Signal) (ms : List (Option Bool)) → all (there I G) os ≡ true → agree t.inputs V os ms ≡ true → Holds ρ (output_clauses B I os ms)
+  outputs_complete : (os : List Signal) (ms : List (Option Bool)) → list_all (there I G) os ≡ true → agree t.inputs V os ms ≡ true → Holds ρ (output_clauses B I os ms)
   outputs_complete [] ms a e = tt
   outputs_complete (o ∷ os) [] a e = tt
-  outputs_complete (o ∷ os) (None ∷ ms) a e = outputs_complete os ms (and_parts (there I G o) (all (there I G) os) a).1 e
+  outputs_complete (o ∷ os) (None ∷ ms) a e = outputs_complete os ms (and_parts (there I G o) (list_all (there I G) os) a).1 e
   outputs_complete (o ∷ os) (Some b ∷ ms) a e =
-      let p = and_parts (there I G o) (all (there I G) os) a in
+      let p = and_parts (there I G o) (list_all (there I G) os) a in
       let q = and_parts (beq b (value t.inputs V o)) (agree t.inputs V os ms) e in
       (value_unit ρ b _ (beq-eq b _ q.0 ∙ signal_value ρ B I t.inputs R.inputs G V known o p.0), outputs_complete os ms p.1 q.1)
     where
@@ -79,7 +79,7 @@ module _ (c : Circuit) (s w : ℕ → Bool) (t : Test) (ρ : Row) (B : ℕ) (R :
   inputs_complete n [] f = tt
   inputs_complete n (b ∷ bs) f = (value_unit ρ b _ (f 0 (omega arith) ∙ ap (λ k. ρ (B + k)) (add-zero n)), inputs_complete (suc n) bs (λ i lt. f (suc i) (omega arith) ∙ ap (λ k. ρ (B + k)) (add-suc n i ∙ sym (suc-add n i))))
 
-  pub test_complete : wired I 0 c.gates ≡ true → all (there I G) c.outputs ≡ true → FitsTest c t → brings_out c s w t ≡ true → Holds ρ (test_clauses c B t)
+  pub test_complete : wired I 0 c.gates ≡ true → list_all (there I G) c.outputs ≡ true → FitsTest c t → brings_out c s w t ≡ true → Holds ρ (test_clauses c B t)
   test_complete f o fit b =
       let e = fit.inputs in
       let a = (and_parts (eqb (length t.inputs) I) (agree t.inputs V c.outputs t.outputs) b).1 in

@@ -5,7 +5,7 @@ use Rattle.std.proofs.lemmas.List.{get_or_append_left, get_or_push, length_push,
 use Rattle.std.proofs.lemmas.Bool.{cases_lt, and_parts, and_from, leb-true, eq-eqb}
 use Rattle.circuit.specs.declared.gate.Signal.{Signal}
 use Rattle.circuit.specs.declared.gate.Signal.TheVariants as signal
-use Rattle.circuit.specs.Lists.{all}
+use Rattle.std.specs.List.{list_all}
 use Rattle.circuit.specs.Kinds.{takes, gives}
 use Rattle.circuit.specs.Circuits.{Gate, Circuit, there, fits, wired}
 use Rattle.circuit.specs.Tests.{Test, FitsTest}
@@ -18,10 +18,10 @@ use Rattle.cnf_theory.proofs.Clauses.{holds_left, holds_right, unit_value}
 use Rattle.cnf_theory.proofs.Functions.{function_says, selection_sound}
 
 -- what is known of a gate that may come after m others, and of those after it
-pub gate_takes : (I m : ℕ) (g : Gate) (gs : List Gate) → wired I m (g ∷ gs) ≡ true → (takes g.kind (length g.operands) ≡ true) × (all (there I m) g.operands ≡ true) × (wired I (suc m) gs ≡ true)
+pub gate_takes : (I m : ℕ) (g : Gate) (gs : List Gate) → wired I m (g ∷ gs) ≡ true → (takes g.kind (length g.operands) ≡ true) × (list_all (there I m) g.operands ≡ true) × (wired I (suc m) gs ≡ true)
 gate_takes I m g gs w =
     let p = and_parts (fits I m g) (wired I (suc m) gs) w in
-    let q = and_parts (takes g.kind (length g.operands)) (all (there I m) g.operands) p.0 in
+    let q = and_parts (takes g.kind (length g.operands)) (list_all (there I m) g.operands) p.0 in
     (q.0, q.1, p.1)
 
 pub takes_mapped : (B I : ℕ) (g : Gate) → takes g.kind (length g.operands) ≡ true → takes g.kind (length (map (signal_variable B I) g.operands)) ≡ true
@@ -42,9 +42,9 @@ module _ (ρ : Row) (B I : ℕ) (inputs : List Bool) (input-is : (i : ℕ) → i
   signal_value m vs k (signal.Gate zero) t = absurd (let e = leb-true 1 0 (and_parts (leb 1 0) (leb 0 m) t).0 in omega arith)
   signal_value m vs k (signal.Gate (suc g)) t = k.1 g (leb-true (suc g) m (and_parts (leb 1 (suc g)) (leb (suc g) m) t).1)
 
-  pub signal_values : (m : ℕ) (vs : List Bool) → Known m vs → (xs : List Signal) → all (there I m) xs ≡ true → map (value inputs vs) xs ≡ map ρ (map (signal_variable B I) xs)
+  pub signal_values : (m : ℕ) (vs : List Bool) → Known m vs → (xs : List Signal) → list_all (there I m) xs ≡ true → map (value inputs vs) xs ≡ map ρ (map (signal_variable B I) xs)
   signal_values m vs k [] t = refl
-  signal_values m vs k (x ∷ xs) t = let p = and_parts (there I m x) (all (there I m) xs) t in λ i. signal_value m vs k x p.0 i ∷ signal_values m vs k xs p.1 i
+  signal_values m vs k (x ∷ xs) t = let p = and_parts (there I m x) (list_all (there I m) xs) t in λ i. signal_value m vs k x p.0 i ∷ signal_values m vs k xs p.1 i
 
   known_push : (m : ℕ) (vs : List Bool) (v : Bool) → Known m vs → v ≡ ρ (value_variable B I (suc m)) → Known (suc m) (vs ++ v ∷ [])
   known_push m vs v k e = (
@@ -83,17 +83,17 @@ beq_same : (a b : Bool) → a ≡ b → beq a b ≡ true
 beq_same true b e = sym (ap (beq true) e)
 beq_same false b e = sym (ap (beq false) e)
 
-outputs_sound : (ρ : Row) (B I m : ℕ) (inputs vs : List Bool) → ((x : Signal) → there I m x ≡ true → value inputs vs x ≡ ρ (signal_variable B I x)) → (os : List Signal) (ms : List (Option Bool)) → length ms ≡ length os → all (there I m) os ≡ true → Holds ρ (output_clauses B I os ms) → agree inputs vs os ms ≡ true
+outputs_sound : (ρ : Row) (B I m : ℕ) (inputs vs : List Bool) → ((x : Signal) → there I m x ≡ true → value inputs vs x ≡ ρ (signal_variable B I x)) → (os : List Signal) (ms : List (Option Bool)) → length ms ≡ length os → list_all (there I m) os ≡ true → Holds ρ (output_clauses B I os ms) → agree inputs vs os ms ≡ true
 outputs_sound ρ B I m inputs vs k [] [] z t h = refl
 outputs_sound ρ B I m inputs vs k [] (x ∷ ms) z t h = absurd (omega arith)
 outputs_sound ρ B I m inputs vs k (o ∷ os) [] z t h = absurd (omega arith)
-outputs_sound ρ B I m inputs vs k (o ∷ os) (None ∷ ms) z t h = outputs_sound ρ B I m inputs vs k os ms (omega arith) (and_parts (there I m o) (all (there I m) os) t).1 h
+outputs_sound ρ B I m inputs vs k (o ∷ os) (None ∷ ms) z t h = outputs_sound ρ B I m inputs vs k os ms (omega arith) (and_parts (there I m o) (list_all (there I m) os) t).1 h
 outputs_sound ρ B I m inputs vs k (o ∷ os) (Some b ∷ ms) z t h =
-    let p = and_parts (there I m o) (all (there I m) os) t in
+    let p = and_parts (there I m o) (list_all (there I m) os) t in
     and_from _ _ (beq_same b _ (unit_value ρ b _ h.0 ∙ sym (k o p.0))) (outputs_sound ρ B I m inputs vs k os ms (omega arith) p.1 h.1)
 
 -- a row brings out the test by its own marks and by the values that it forces
-pub test_brings_out : (c : Circuit) (ρ : Row) (B : ℕ) (t : Test) → wired c.inputs 0 c.gates ≡ true → all (there c.inputs (length c.gates)) c.outputs ≡ true → FitsTest c t → Holds ρ (test_clauses c B t) → brings_out c ρ (λ g. ρ (forced_variable B c.inputs g)) t ≡ true
+pub test_brings_out : (c : Circuit) (ρ : Row) (B : ℕ) (t : Test) → wired c.inputs 0 c.gates ≡ true → list_all (there c.inputs (length c.gates)) c.outputs ≡ true → FitsTest c t → Holds ρ (test_clauses c B t) → brings_out c ρ (λ g. ρ (forced_variable B c.inputs g)) t ≡ true
 test_brings_out c ρ B t f o fit h =
     let I = c.inputs in
     let e = fit.inputs in
@@ -104,7 +104,7 @@ test_brings_out c ρ B t f o fit h =
     let known = simulated ρ B I t.inputs is c.gates 0 [] f (refl, λ j lt. absurd (omega arith)) (holds_right ρ one two front) in
     let G : 0 + length c.gates ≡ length c.gates = omega arith in
     let vs = values c ρ (λ g. ρ (forced_variable B I g)) t.inputs in
-    and_from _ _ (eq-eqb _ _ e) (outputs_sound ρ B I (0 + length c.gates) t.inputs vs (signal_value ρ B I t.inputs is _ vs known) c.outputs t.outputs fit.outputs (subst (λ (n : ℕ). all (there I n) c.outputs ≡ true) (sym G) o) (holds_right ρ (one ++ two) _ h))
+    and_from _ _ (eq-eqb _ _ e) (outputs_sound ρ B I (0 + length c.gates) t.inputs vs (signal_value ρ B I t.inputs is _ vs known) c.outputs t.outputs fit.outputs (subst (λ (n : ℕ). list_all (there I n) c.outputs ≡ true) (sym G) o) (holds_right ρ (one ++ two) _ h))
 
-pub test_sound : (c : Circuit) (ρ : Row) (B : ℕ) (t : Test) → wired c.inputs 0 c.gates ≡ true → all (there c.inputs (length c.gates)) c.outputs ≡ true → FitsTest c t → Holds ρ (test_clauses c B t) → Explains c ρ t
+pub test_sound : (c : Circuit) (ρ : Row) (B : ℕ) (t : Test) → wired c.inputs 0 c.gates ≡ true → list_all (there c.inputs (length c.gates)) c.outputs ≡ true → FitsTest c t → Holds ρ (test_clauses c B t) → Explains c ρ t
 test_sound c ρ B t f o fit h = ((λ g. ρ (forced_variable B c.inputs g)), test_brings_out c ρ B t f o fit h)

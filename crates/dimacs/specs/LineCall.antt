@@ -6,13 +6,14 @@
 use Rattle.std.specs.Prelude.{ℕ, zero, suc, cond, List, ◌++◌, length, drop, Some, None, Ok, Err, Option, Result, nat_le}
 use Rattle.std.specs.List.{slice_get}
 use Rattle.refusal.specs.declared.Refusal.{Refusal}
+use Rattle.refusal.specs.Asking.{numbered}
 
 abbrev pub line_at : List (List ℕ) → ℕ → Option (List ℕ)
 line_at ls zero = None
 line_at ls (suc j) = slice_get ls j
 
 abbrev pub no_such_line : Refusal
-no_such_line = record { number = 19; line = 0; column = 0 }
+no_such_line = numbered 19
 
 abbrev told_of : Option (List ℕ) → Result ℕ Refusal
 told_of None = Err no_such_line

@@ -1,10 +1,8 @@
 // The formula's text in DIMACS form, line by line, without writing the lines before.
 #![tactic(auto)]
 
-mod digits;
 mod line;
 mod pick;
-mod push;
 mod text;
 
 pub use line::formula_line;

@@ -1,29 +1,17 @@
 // One clause of those that are written, by its number.
-ghost use Rattle.std.specs.Prelude.{◌≡◌, ◌≤◌, length, take};
 ghost use Rattle.dimacs.specs.Picked.{Picked};
 ghost use Rattle.dimacs.specs.PickedLaws.{picked_none, picked_both};
 
 use cnf::ClauseSink;
+use inline_list::InlineList;
 
-// Lets so many clauses pass and keeps the next, of at most nine literals.
+// What is picked of the clauses that are written: the one behind so many others, or its first nine literals.
 #[derive(Clone, Copy)]
-pub struct Pick {
-    pub skip: usize,
-    pub found: bool,
-    pub count: usize,
-    pub literals: [i32; 9],
-}
-
-// The literals of a clause of at most nine.
-fn copied(clause: &[i32]) -> [i32; 9]
-    ensures { length clause.now ≤ 9 → take (length clause.now) result ≡ clause.now }
-{
-    let mut literals = [0; 9];
-    let count = clause.len().min(9);
-    for i in 0..count {
-        literals[i] = clause[i];
-    }
-    literals
+pub enum Pick {
+    // so many clauses are still to pass
+    Skipping(usize),
+    // the one behind them
+    Found(InlineList<i32, 9>),
 }
 
 impl ClauseSink for Pick {
@@ -36,26 +24,26 @@ impl ClauseSink for Pick {
     ghost both = { λ s t u a b x y. picked_both s t u a b x y };
 
     fn take(&mut self, clause: &[i32]) {
-        if self.found {
-            return;
+        match self {
+            Pick::Found(_) => {}
+            Pick::Skipping(left) if *left > 0 => *left -= 1,
+            Pick::Skipping(_) => {
+                let kept = &clause[..clause.len().min(9)];
+                if let Ok(literals) = InlineList::of(kept, 0) {
+                    *self = Pick::Found(literals);
+                }
+            }
         }
-        if self.skip > 0 {
-            self.skip -= 1;
-            return;
-        }
-        self.found = true;
-        self.count = clause.len();
-        self.literals = copied(clause);
     }
 
     fn pass(&mut self, count: usize) -> bool {
-        if self.found {
-            return true;
+        match self {
+            Pick::Found(_) => true,
+            Pick::Skipping(left) if *left >= count => {
+                *left -= count;
+                true
+            }
+            Pick::Skipping(_) => false,
         }
-        if self.skip < count {
-            return false;
-        }
-        self.skip -= count;
-        true
     }
 }

@@ -5,7 +5,7 @@
 ghost use Rattle.std.specs.Prelude.{◌≤◌};
 
 use circuit::{Circuit, Gate, Kind, Operands, Signal};
-use cnf::Bound;
+use cnf::{Bound, Problem};
 use dimacs::formula_line;
 use std::alloc::{AllocError, Global};
 use std::io;
@@ -15,7 +15,7 @@ use testlog::TestTable;
 fn wide_gate() -> Gate {
     let mut operands = Operands::none(Signal::Input(1));
     for i in 1..9 {
-        operands.push(Signal::Input(i));
+        let _ = operands.push(Signal::Input(i));
     }
     Gate {
         kind: Kind::Nand,
@@ -25,14 +25,14 @@ fn wide_gate() -> Gate {
 
 fn full_circuit(heap: Global) -> Result<Circuit, AllocError> {
     let mut circuit = Circuit::new(heap)?;
-    for _ in 0..64 {
-        circuit.add_input();
+    for _ in 0..Circuit::MOST_INPUTS {
+        let _ = circuit.add_input();
     }
-    for _ in 0..256 {
-        circuit.add_gate(wide_gate());
+    for _ in 0..Circuit::MOST_GATES {
+        let _ = circuit.add_gate(wide_gate());
     }
     for g in 1..33 {
-        circuit.add_output(Signal::Gate(g));
+        let _ = circuit.add_output(Signal::Gate(g));
     }
     Ok(circuit)
 }
@@ -49,18 +49,12 @@ fn full_tests(heap: Global, circuit: &Circuit) -> Result<TestTable, AllocError> 
 }
 
 // How many lines there are from one number up to another, and their bytes.
-fn write_lines(
-    circuit: &Circuit,
-    tests: &TestTable,
-    bound: Bound,
-    from: usize,
-    to: usize,
-) -> (usize, usize) {
+fn write_lines(problem: &Problem, from: usize, to: usize) -> (usize, usize) {
     let mut lines: usize = 0;
     let mut bytes: usize = 0;
     for line in from..to {
         let mut buffer = [0; 128];
-        if let Ok(length) = formula_line(circuit, tests, bound, line, &mut buffer) {
+        if let Ok(length) = formula_line(problem, line, &mut buffer) {
             lines = lines.saturating_add(1);
             bytes = bytes.saturating_add(length);
         }
@@ -69,17 +63,11 @@ fn write_lines(
 }
 
 // The time for the thousand lines from this number on.
-fn time_lines(
-    rt: &HostRuntime,
-    circuit: &Circuit,
-    tests: &TestTable,
-    bound: Bound,
-    from: usize,
-) -> io::Result<()>
+fn time_lines(rt: &HostRuntime, problem: &Problem, from: usize) -> io::Result<()>
     requires { from ≤ 1000000 }
 {
     let start = Instant::now(rt)?;
-    write_lines(circuit, tests, bound, from, from + 1000);
+    write_lines(problem, from, from + 1000);
     let micros = start.elapsed(rt)?.as_micros();
     eprintln!(rt; "1000 lines from line {from}: {micros} microseconds")
 }
@@ -90,11 +78,15 @@ fn main(rt: HostRuntime) -> io::Result<()> {
     let Some(bound) = Bound::new(6) else {
         return Ok(());
     };
-    time_lines(&rt, &circuit, &tests, bound, 1_000)?;
-    time_lines(&rt, &circuit, &tests, bound, 10_000)?;
-    time_lines(&rt, &circuit, &tests, bound, 50_000)?;
-    time_lines(&rt, &circuit, &tests, bound, 100_000)?;
-    let (lines, bytes) = write_lines(&circuit, &tests, bound, 1, 120_000);
+    let problem = Problem {
+        circuit: &circuit,
+        tests: &tests,
+        bound,
+    };
+    for from in [1_000, 10_000, 50_000, 100_000] {
+        time_lines(&rt, &problem, from)?;
+    }
+    let (lines, bytes) = write_lines(&problem, 1, 120_000);
     println!(rt; "lines {lines}")?;
     println!(rt; "bytes {bytes}")
 }

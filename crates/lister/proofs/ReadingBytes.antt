@@ -1,54 +1,67 @@
 -- Bytes of readings, made from the last gate on.
-use Rattle.std.proofs.Common.{◌≡◌, ℕ, zero, suc, ◌+◌, ◌-◌, ◌*◌, ◌^◌, ◌<◌, ◌≤◌, Bool, true, false, cond, List, [], ◌∷◌, length, get_or, drop, sym, refl, ap, ◌∙◌, le_of_suc-le-suc, not-suc-le-zero, pow-suc, arith, length-drop, drop-cons, pow_mono}
-use lib.Seq.{drop-length}
+use Rattle.std.proofs.Common.{◌≡◌, ℕ, ◌+◌, ◌*◌, ◌^◌, ◌<◌, ◌≤◌, Bool, true, false, cond, List, [], ◌∷◌, ◌++◌, length, sym, refl, ap, ◌∙◌, subst, append-nil, append_assoc, length-append, pow-suc, pow_mono, arith}
 use mir.Val.{bool_byte}
 use Rattle.std.specs.List.{AllByRecursion}
 use Rattle.diagnosis.specs.Explains.{Values}
 use Rattle.diagnosis.specs.Readings.{reading}
 
-pub all_here : (P : ℕ → Type 0) (xs : List ℕ) (i d : ℕ) → i < length xs → AllByRecursion P xs → P (get_or xs i d)
-all_here P [] i d l h = absurd (not-suc-le-zero l)
-all_here P (x ∷ xs) zero d l h = h.0
-all_here P (x ∷ xs) (suc i) d l h = all_here P xs i d (le_of_suc-le-suc l) h.1
+pub byte_of : (b : Bool) → bool_byte b ≡ cond b 1 0
+byte_of true = refl
+byte_of false = refl
 
 reading_step : (b : Bool) (r p : ℕ) → r < p → cond b 1 0 + 2 * r < 2 * p
 reading_step true r p l = omega arith
 reading_step false r p l = omega arith
 
-pub reading_few : (S : List ℕ) (w : Values) → reading S w < 2 ^ length S
+reading_few : (S : List ℕ) (w : Values) → reading S w < 2 ^ length S
 reading_few [] w = omega arith
 reading_few (x ∷ S) w = let h = reading_step (w x) (reading S w) (2 ^ length S) (reading_few S w) in let e = pow-suc 2 (length S) in omega arith
 
--- one gate more, in front of those read
-pub reading_more : (S : List ℕ) (w : Values) (i d byte : ℕ) (b : Bool) → i < length S → byte ≡ reading (drop (length S - i) S) w → b ≡ w (get_or S (length S - 1 - i) d) → byte * 2 + cond b 1 0 ≡ reading (drop (length S - (i + 1)) S) w
-reading_more S w i d byte b l e f =
-    let j = length S - 1 - i in
-    let first : length S - (i + 1) ≡ j = omega arith in
-    let next : suc j ≡ length S - i = omega arith in
-    let in_range : j < length S = omega arith in
-    let open' : drop (length S - (i + 1)) S ≡ get_or S j d ∷ drop (length S - i) S = ap (λ n. drop n S) first ∙ drop-cons S j d in_range ∙ ap (λ n. get_or S j d ∷ drop n S) next in
-    turned ∙ ap (λ n. cond b 1 0 + 2 * n) e ∙ ap (λ x. cond x 1 0 + 2 * reading (drop (length S - i) S) w) f ∙ sym (ap (λ T. reading T w) open')
-  where
-    turned : byte * 2 + cond b 1 0 ≡ cond b 1 0 + 2 * byte
-    turned = omega arith
+-- ── the gates S, of which `left` are still to come and `done` were read; x is the next ──
+pub record ReadSoFar (S left : List ℕ) (w : Values) (byte : ℕ) : Type 0 where
+  pub done : List ℕ
+  pub parts : S ≡ left ++ done
+  pub value : byte ≡ reading done w
 
-pub byte_few : (S : List ℕ) (w : Values) (i byte : ℕ) → i < length S → length S ≤ 6 → byte ≡ reading (drop (length S - i) S) w → byte < 32
-byte_few S w i byte l six e =
-    let few = reading_few (drop (length S - i) S) w in
-    let len : length (drop (length S - i) S) ≤ 5 = let d = length-drop (length S - i) S in omega arith in
-    let most : 2 ^ length (drop (length S - i) S) ≤ 2 ^ 5 = pow_mono len in
-    omega arith
+module _ (S left more : List ℕ) (x : ℕ) (w : Values) (byte : ℕ) (next : left ≡ more ++ x ∷ []) (so_far : ReadSoFar S left w byte) where
+  split : S ≡ more ++ (x ∷ so_far.done)
+  split = so_far.parts ∙ ap (λ l. l ++ so_far.done) next ∙ append_assoc more (x ∷ []) so_far.done
 
-pub byte_of : (b : Bool) → bool_byte b ≡ cond b 1 0
-byte_of true = refl
-byte_of false = refl
+  -- the gates read so far leave room for the bit of one more, of six
+  pub byte_few : length S ≤ 6 → byte < 32
+  byte_few six =
+      let few = reading_few so_far.done w in
+      let len = ap length split ∙ length-append more (x ∷ so_far.done) in
+      let five : length so_far.done ≤ 5 = omega arith in
+      let most : 2 ^ length so_far.done ≤ 2 ^ 5 = pow_mono five in
+      let is = so_far.value in
+      omega arith
 
-pub reading_none : (S : List ℕ) (w : Values) → 0 ≡ reading (drop (length S - 0) S) w
-reading_none S w = ap (λ T. reading T w) (sym (ap (λ n. drop n S) (let e : length S - 0 ≡ length S = omega arith in e) ∙ drop-length S))
+  pub reading_more : (b : Bool) → b ≡ w x → ReadSoFar S more w (byte * 2 + cond b 1 0)
+  reading_more b e = record {
+    done = x ∷ so_far.done;
+    parts = split;
+    value = turned ∙ ap (λ n. cond b 1 0 + 2 * n) so_far.value ∙ ap (λ y. cond y 1 0 + 2 * reading so_far.done w) e;
+  }
+    where
+      turned : byte * 2 + cond b 1 0 ≡ cond b 1 0 + 2 * byte
+      turned = omega arith
+
+  -- what all gates have, the next one has
+  pub next_has : (P : ℕ → Type 0) → AllByRecursion P S → P x
+  next_has P all = behind more (subst (AllByRecursion P) split all)
+    where
+      behind : (front : List ℕ) → AllByRecursion P (front ++ (x ∷ so_far.done)) → P x
+      behind [] h = h.0
+      behind (y ∷ front) h = behind front h.1
+
+pub none_read : (S left : List ℕ) (w : Values) → left ≡ S → ReadSoFar S left w 0
+none_read S left w e = record { done = []; parts = sym e ∙ sym (append-nil left); value = refl }
+
+pub all_read : (S left : List ℕ) (w : Values) (byte : ℕ) → length left ≡ 0 → ReadSoFar S left w byte → byte ≡ reading S w
+all_read S [] w byte none so_far = so_far.value ∙ ap (λ T. reading T w) (sym so_far.parts)
+all_read S (y ∷ left) w byte none so_far = absurd (omega arith)
 
 pub bit_few : (b : Bool) → bool_byte b < 2
 bit_few true = omega arith
 bit_few false = omega arith
-
-pub reading_all : (S : List ℕ) (w : Values) (i : ℕ) → length S ≤ i → reading (drop (length S - i) S) w ≡ reading S w
-reading_all S w i l = ap (λ n. reading (drop n S) w) (let e : length S - i ≡ 0 = omega arith in e)

@@ -1,7 +1,9 @@
 -- The variables that are read are in use, and one test's byte more.
-use Rattle.std.proofs.Common.{◌≡◌, ℕ, zero, suc, ◌+◌, ◌*◌, ◌<◌, ◌≤◌, List, [], ◌∷◌, length, get_or, set, sym, ap, ◌∙◌, ⊎_elim, mul-le-mul_right, suc-mul, arith, get_or-set_other, get_or-set_same}
+use Rattle.std.proofs.Common.{◌≡◌, ℕ, zero, suc, ◌+◌, ◌*◌, ◌<◌, ◌≤◌, List, [], ◌∷◌, ◌++◌, length, get_or, sym, ap, ◌∙◌, ⊎_elim, mul-le-mul_right, suc-mul, arith}
 use Rattle.std.specs.List.{AllByRecursion}
+use Rattle.std.proofs.Math.Seq.{get_or-append_seam}
 use Rattle.std.proofs.lemmas.Bool.{cases_eq}
+use Rattle.std.proofs.lemmas.List.{get_or_append_left}
 use Rattle.circuit.specs.Circuits.{Circuit}
 use Rattle.diagnosis.specs.Sets.{Ascends, IsSet}
 use Rattle.cnf_theory.specs.Variables.{base, forced_variable}
@@ -28,12 +30,13 @@ module _ (c : Circuit) (N T V : ℕ) (few : length c.gates ≤ 256) (all_in_use 
   pub set_readable : (t : ℕ) (S : List ℕ) → t < T → IsSet (length c.gates) S → AllByRecursion (Readable V (base c N t) c.inputs) S
   set_readable t S l s = from_readable t 1 S l (omega arith) s
 
--- the byte of one test more is written
-pub bytes_more : (f : ℕ → ℕ) (bytes : List ℕ) (t byte : ℕ) → t < length bytes → ((s : ℕ) → s < t → get_or bytes s 0 ≡ f s) → byte ≡ f t → (s : ℕ) → s < t + 1 → get_or (set bytes t byte) s 0 ≡ f s
-bytes_more f bytes t byte l h e s u =
-    ⊎_elim
-    (λ same. ap (λ k. get_or (set bytes t byte) k 0) same ∙ get_or-set_same bytes t byte 0 l ∙ e ∙ ap f (sym same))
-    (λ other. get_or-set_other bytes t s byte 0 other ∙ h s (let q : s < t = below s u other in q))
+-- one test's byte more
+pub bytes_more : (f : ℕ → ℕ) (bytes more : List ℕ) (t byte : ℕ) → length bytes ≡ t → more ≡ bytes ++ byte ∷ [] → ((s : ℕ) → s < t → get_or bytes s 0 ≡ f s) → byte ≡ f t → (s : ℕ) → s < t + 1 → get_or more s 0 ≡ f s
+bytes_more f bytes more t byte len is h e s u =
+    ap (λ bs. get_or bs s 0) is
+    ∙ ⊎_elim
+    (λ same. ap (λ i. get_or (bytes ++ byte ∷ []) i 0) (same ∙ sym len) ∙ get_or-append_seam bytes byte [] 0 ∙ e ∙ ap f (sym same))
+    (λ other. get_or_append_left bytes (byte ∷ []) 0 s (let q : s < t = below s u other in omega arith) ∙ h s (let q : s < t = below s u other in q))
     (cases_eq s t)
   where
     below : (s : ℕ) → s < t + 1 → (s ≡ t → ⊥) → s < t

@@ -1,12 +1,15 @@
 -- What is left of a width and a room after clauses were weighed against them.
---   Weighed   whether all of them fit, and how much room they leave
-use Rattle.std.specs.Prelude.{◌≡◌, ◌+◌, ◌≤◌, true, List, ℤ}
+--   Left      the room that clauses leave, if all of them fit; none if one did not, or had not before
+--   Weighed   a scale on which they were weighed
+use Rattle.std.specs.Prelude.{◌≡◌, ℕ, ◌+◌, ◌≤◌, ⊤, List, ℤ, Some, None, Option}
 use Rattle.cnf_theory.specs.Sizes.{prices, longest}
 use Rattle.lister.specs.declared.scale.Scale.{Scale}
 
+abbrev pub Left : ℕ → Option ℕ → List (List ℤ) → Option ℕ → Type 0
+Left width room cs (Some left) = (longest cs ≤ width) × (room ≡ Some (left + prices cs))
+Left width (Some room) cs None = ¬ ((longest cs ≤ width) × (prices cs ≤ room))
+Left width None cs None = ⊤
+
 pub record Weighed (s : Scale) (cs : List (List ℤ)) (t : Scale) : Type 0 where
   pub width : t.width ≡ s.width
-  pub fitted : s.fits ≡ true → longest cs ≤ s.width → prices cs ≤ s.room → t.fits ≡ true
-  pub before : t.fits ≡ true → s.fits ≡ true
-  pub wide : t.fits ≡ true → longest cs ≤ s.width
-  pub room : t.fits ≡ true → t.room + prices cs ≡ s.room
+  pub left : Left s.width s.room cs t.room

@@ -5,7 +5,7 @@ ghost use Rattle.solver.specs.Meaning.{Solved, Kept};
 ghost use Rattle.cnf_theory.specs.Variables.{count_variable};
 ghost use Rattle.answers.specs.Loaded.{OffAnswer, FewestOf};
 
-use crate::bars::negated;
+use crate::literal::literal;
 use solver::Solver;
 
 // Whether an allowed row has each assumed literal true.
@@ -15,10 +15,7 @@ pub(crate) fn ask<S: Solver>(solver: &mut S, assumed: &[i32]) -> bool
     ensures sound { S.Solver.sound solver.new }
     ensures solved { Solved (S.Solver.meaning solver.old) assumed.now result (S.Solver.meaning solver.new) }
 {
-    match solver.solve(assumed) {
-        Ok(answer) => answer,
-        Err(_) => false,
-    }
+    solver.solve(assumed).unwrap_or(false)
 }
 
 // Whether an allowed row has the variable off.
@@ -29,8 +26,7 @@ fn ask_off<S: Solver>(solver: &mut S, variable: usize) -> bool
     ensures kept { Kept (S.Solver.meaning solver.old) (S.Solver.meaning solver.new) }
     ensures answer { OffAnswer (S.Solver.meaning solver.old) variable result (S.Solver.meaning solver.new).shown }
 {
-    let off = negated(variable);
-    ask(solver, &[off])
+    ask(solver, &[literal(variable, false)])
 }
 
 // The variable that tells whether more than k gates are marked.
@@ -43,6 +39,7 @@ pub(crate) fn last_count(gates: usize, bound: usize, k: usize) -> usize
 }
 
 // The fewest marks that an allowed row has, if one has no more than the bound.
+// Kept: a loop, since each step changes the solver, which a closure would capture.
 pub(crate) fn fewest<S: Solver>(solver: &mut S, gates: usize, bound: usize) -> Option<usize>
     requires sound { S.Solver.sound solver.old }
     requires sizes { (1 ≤ gates) × ((gates ≤ 256) × (bound ≤ 6)) }
@@ -51,7 +48,7 @@ pub(crate) fn fewest<S: Solver>(solver: &mut S, gates: usize, bound: usize) -> O
     ensures kept { Kept (S.Solver.meaning solver.old) (S.Solver.meaning solver.new) }
     ensures fewest { FewestOf (S.Solver.meaning solver.old) gates bound result (S.Solver.meaning solver.new).shown }
 {
-    for k in 0..bound + 1 {
+    for k in 0..=bound {
         if ask_off(solver, last_count(gates, bound, k)) {
             return Some(k);
         }

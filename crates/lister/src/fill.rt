@@ -15,11 +15,9 @@ ghost use Rattle.lister.specs.Asked.{GateNumbers};
 
 use crate::bars::write_bars;
 use crate::scale::Scale;
-use circuit::Circuit;
-use cnf::{Bound, variable_count, write_formula};
+use cnf::Problem;
 use gate_set::GateSet;
 use solver::Solver;
-use testlog::TestTable;
 
 // Begins a solver that has the capacity.
 fn begin_with<S: Solver>(solver: &mut S, variables: usize)
@@ -32,46 +30,33 @@ fn begin_with<S: Solver>(solver: &mut S, variables: usize)
 }
 
 // Begins a solver that is large enough, and hands it the formula and a clause for each set given.
-pub(crate) fn fill<S: Solver>(
-    solver: &mut S,
-    circuit: &Circuit,
-    tests: &TestTable,
-    bound: Bound,
-    given: &[GateSet],
-)
+pub(crate) fn fill<S: Solver>(solver: &mut S, problem: &Problem, given: &[GateSet])
     requires sound { S.Solver.sound solver.old }
-    requires fits { Given (circuit_of circuit.now) (tests_of tests.now) (sets_of given.now) }
-    requires capacity { variables (circuit_of circuit.now) (tests_of tests.now) bound.value ≤ (S.Solver.meaning solver.old).sizes.capacity }
-    requires width { longest (added (circuit_of circuit.now) (tests_of tests.now) bound.value (sets_of given.now)) ≤ (S.Solver.meaning solver.old).sizes.width }
-    requires room { prices (added (circuit_of circuit.now) (tests_of tests.now) bound.value (sets_of given.now)) ≤ (S.Solver.meaning solver.old).sizes.full }
+    requires fits { Given (circuit_of problem.now.circuit.now) (tests_of problem.now.tests.now) (sets_of given.now) }
+    requires capacity { variables (circuit_of problem.now.circuit.now) (tests_of problem.now.tests.now) problem.now.bound.value ≤ (S.Solver.meaning solver.old).sizes.capacity }
+    requires width { longest (added (circuit_of problem.now.circuit.now) (tests_of problem.now.tests.now) problem.now.bound.value (sets_of given.now)) ≤ (S.Solver.meaning solver.old).sizes.width }
+    requires room { prices (added (circuit_of problem.now.circuit.now) (tests_of problem.now.tests.now) problem.now.bound.value (sets_of given.now)) ≤ (S.Solver.meaning solver.old).sizes.full }
     ensures sound { S.Solver.sound solver.new }
-    ensures loaded { Loaded (S.Solver.meaning solver.old).sizes (variables (circuit_of circuit.now) (tests_of tests.now) bound.value) (added (circuit_of circuit.now) (tests_of tests.now) bound.value (sets_of given.now)) (S.Solver.meaning solver.new) }
+    ensures loaded { Loaded (S.Solver.meaning solver.old).sizes (variables (circuit_of problem.now.circuit.now) (tests_of problem.now.tests.now) problem.now.bound.value) (added (circuit_of problem.now.circuit.now) (tests_of problem.now.tests.now) problem.now.bound.value (sets_of given.now)) (S.Solver.meaning solver.new) }
 {
-    begin_with(solver, variable_count(circuit, tests, bound));
-    write_formula(solver, circuit, tests, bound);
+    begin_with(solver, problem.variable_count());
+    problem.write_formula(solver);
     write_bars(solver, given);
 }
 
 // Whether the solver has the variables, the width and the room for what is added.
-pub(crate) fn is_enough<S: Solver>(
-    solver: &S,
-    circuit: &Circuit,
-    tests: &TestTable,
-    bound: Bound,
-    given: &[GateSet],
-) -> bool
+pub(crate) fn is_enough<S: Solver>(solver: &S, problem: &Problem, given: &[GateSet]) -> bool
     requires numbers { AllByRecursion GateNumbers (sets_of given.now) }
-    ensures { result ≡ enough (circuit_of circuit.now) (tests_of tests.now) bound.value (sets_of given.now) (S.Solver.meaning solver.now).sizes }
+    ensures { result ≡ enough (circuit_of problem.now.circuit.now) (tests_of problem.now.tests.now) problem.now.bound.value (sets_of given.now) (S.Solver.meaning solver.now).sizes }
 {
-    if variable_count(circuit, tests, bound) > solver.capacity() {
+    if problem.variable_count() > solver.capacity() {
         return false;
     }
     let mut scale = Scale {
         width: solver.width(),
-        room: solver.full_room(),
-        fits: true,
+        room: Some(solver.full_room()),
     };
-    write_formula(&mut scale, circuit, tests, bound);
+    problem.write_formula(&mut scale);
     write_bars(&mut scale, given);
-    scale.fits
+    scale.room.is_some()
 }

@@ -7,6 +7,7 @@ mod bars;
 mod explanation;
 mod fault;
 mod fill;
+mod literal;
 mod lowest;
 mod next;
 mod readings;

@@ -22,11 +22,9 @@ use crate::fault::ListFault;
 use crate::fill::{fill, is_enough};
 use crate::lowest::lowest;
 use crate::readings::read_tests;
-use circuit::Circuit;
-use cnf::Bound;
+use cnf::Problem;
 use gate_set::GateSet;
 use solver::Solver;
-use testlog::TestTable;
 
 // The lowest set of the fewest marks, of a solver whose counts say how many are marked.
 fn first<S: Solver>(solver: &mut S, gates: usize, bound: usize) -> Option<GateSet>
@@ -38,9 +36,7 @@ fn first<S: Solver>(solver: &mut S, gates: usize, bound: usize) -> Option<GateSe
     ensures kept { Kept (S.Solver.meaning solver.old) (S.Solver.meaning solver.new) }
     ensures first { FirstOf (S.Solver.meaning solver.old) gates bound (option_map set_of result) (S.Solver.meaning solver.new) }
 {
-    let Some(k) = fewest(solver, gates, bound) else {
-        return None;
-    };
+    let k = fewest(solver, gates, bound)?;
     let count = last_count(gates, bound, k);
     Some(lowest(solver, gates, count, k))
 }
@@ -50,29 +46,27 @@ fn first<S: Solver>(solver: &mut S, gates: usize, bound: usize) -> Option<GateSe
 // The solver then holds the formula and a clause for each set given, and shows a row that marks just the set, or none.
 pub fn next_set<S: Solver>(
     solver: &mut S,
-    circuit: &Circuit,
-    tests: &TestTable,
-    bound: Bound,
+    problem: &Problem,
     given: &[GateSet],
 ) -> Result<Option<Explanation>, ListFault>
     requires { S.Solver.sound solver.old }
-    ensures refused { result_err result ≡ list_refusal (circuit_of circuit.now) (tests_of tests.now) bound.value (sets_of given.now) (S.Solver.meaning solver.old).sizes }
+    ensures refused { result_err result ≡ list_refusal (circuit_of problem.now.circuit.now) (tests_of problem.now.tests.now) problem.now.bound.value (sets_of given.now) (S.Solver.meaning solver.old).sizes }
     ensures untouched { OnErr result (solver.new ≡ solver.old) }
-    ensures loaded { OnOk result (Loaded (S.Solver.meaning solver.old).sizes (variables (circuit_of circuit.now) (tests_of tests.now) bound.value) (added (circuit_of circuit.now) (tests_of tests.now) bound.value (sets_of given.now)) (S.Solver.meaning solver.new)) }
-    ensures next { IfOk result (λ next. NextIs (circuit_of circuit.now) (tests_of tests.now) bound.value (sets_of given.now) (set_in next) (S.Solver.meaning solver.new).shown) }
-    ensures readings { IfOk result (λ next. ReadingsOf (circuit_of circuit.now) (tests_of tests.now) next) }
+    ensures loaded { OnOk result (Loaded (S.Solver.meaning solver.old).sizes (variables (circuit_of problem.now.circuit.now) (tests_of problem.now.tests.now) problem.now.bound.value) (added (circuit_of problem.now.circuit.now) (tests_of problem.now.tests.now) problem.now.bound.value (sets_of given.now)) (S.Solver.meaning solver.new)) }
+    ensures next { IfOk result (λ next. NextIs (circuit_of problem.now.circuit.now) (tests_of problem.now.tests.now) problem.now.bound.value (sets_of given.now) (set_in next) (S.Solver.meaning solver.new).shown) }
+    ensures readings { IfOk result (λ next. ReadingsOf (circuit_of problem.now.circuit.now) (tests_of problem.now.tests.now) next) }
     ensures sound { S.Solver.sound solver.new }
 {
-    if !is_fitting(circuit, tests, given) {
+    if !is_fitting(problem, given) {
         return Err(ListFault::Unfit);
     }
-    if !is_enough(solver, circuit, tests, bound, given) {
+    if !is_enough(solver, problem, given) {
         return Err(ListFault::SmallSolver);
     }
-    fill(solver, circuit, tests, bound, given);
-    let Some(set) = first(solver, circuit.gates().len(), bound.value()) else {
+    fill(solver, problem, given);
+    let Some(set) = first(solver, problem.circuit.gates().len(), problem.bound.value()) else {
         return Ok(None);
     };
-    let readings = read_tests(solver, circuit, tests.len(), bound, &set);
+    let readings = read_tests(solver, problem, &set);
     Ok(Some(Explanation { set, readings }))
 }

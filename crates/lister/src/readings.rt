@@ -2,15 +2,17 @@
 ghost use Rattle.std.specs.Prelude.{◌≡◌, ℕ, ◌<◌, ◌≤◌, length, slice_index};
 ghost use Rattle.std.specs.List.{AllByRecursion};
 ghost use Rattle.circuit.specs.Held.{circuit_of};
+ghost use Rattle.testlog.specs.Held.{tests_of};
 ghost use Rattle.diagnosis.specs.Sets.{IsSet};
 ghost use Rattle.diagnosis.specs.Readings.{reading};
-ghost use Rattle.cnf_theory.specs.Variables.{base as base_of, forced_variable};
+ghost use Rattle.cnf_theory.specs.Variables.{base as base_of, forced_variable, variables};
+ghost use Rattle.inline_list.specs.Listed.{listed};
 ghost use Rattle.gate_set.specs.Held.{set_of};
 ghost use Rattle.lister.specs.Readings.{told, Readable};
 
-use circuit::Circuit;
-use cnf::{Bound, variables_before};
+use cnf::Problem;
 use gate_set::GateSet;
+use inline_list::InlineList;
 use solver::Solver;
 
 // The value of a variable in the row shown.
@@ -19,10 +21,7 @@ fn shown_value<S: Solver>(solver: &S, variable: usize) -> bool
     requires named { (1 ≤ variable) × (variable ≤ (S.Solver.meaning solver.now).vars) }
     ensures { result ≡ told (S.Solver.meaning solver.now).shown variable }
 {
-    match solver.value(variable) {
-        Ok(value) => value,
-        Err(_) => false,
-    }
+    solver.value(variable).unwrap_or(false)
 }
 
 // The value forced on a gate in the test whose variables come after `base`.
@@ -42,34 +41,31 @@ fn read_test<S: Solver>(solver: &S, base: usize, inputs: usize, gates: &[usize])
     requires reads { AllByRecursion (Readable (S.Solver.meaning solver.now).vars base inputs) gates.now }
     ensures { result ≡ reading gates.now (λ g. told (S.Solver.meaning solver.now).shown (forced_variable base inputs g)) }
 {
-    let count = gates.len();
     let mut byte = 0;
-    for i in 0..count {
-        let gate = gates[count - 1 - i];
-        byte = byte * 2 + u8::from(forced_value(solver, base, inputs, gate));
+    for gate in gates.iter().rev() {
+        byte = byte * 2 + u8::from(forced_value(solver, base, inputs, *gate));
     }
     byte
 }
 
-// The bytes of so many tests; the places behind them are 0.
+// The bytes of the tests.
+// Kept: tests by number, since only their number tells which variables are theirs.
 pub(crate) fn read_tests<S: Solver>(
     solver: &S,
-    circuit: &Circuit,
-    tests: usize,
-    bound: Bound,
+    problem: &Problem,
     set: &GateSet,
-) -> [u8; 32]
+) -> InlineList<u8, 32>
     requires sound { S.Solver.sound solver.now }
-    requires tests { tests ≤ 32 }
-    requires set { IsSet (length (circuit_of circuit.now).gates) (set_of set.now) }
-    requires vars { base_of (circuit_of circuit.now) bound.value tests ≤ (S.Solver.meaning solver.now).vars }
-    ensures len { length result ≡ 32 }
-    ensures value { (t : ℕ) → t < tests → slice_index result t ≡ reading (set_of set.now) (λ g. told (S.Solver.meaning solver.now).shown (forced_variable (base_of (circuit_of circuit.now) bound.value t) (circuit_of circuit.now).inputs g)) }
+    requires set { IsSet (length (circuit_of problem.now.circuit.now).gates) (set_of set.now) }
+    requires vars { variables (circuit_of problem.now.circuit.now) (tests_of problem.now.tests.now) problem.now.bound.value ≤ (S.Solver.meaning solver.now).vars }
+    ensures len { length (listed result) ≡ length (tests_of problem.now.tests.now) }
+    ensures value { (t : ℕ) → t < length (tests_of problem.now.tests.now) → slice_index (listed result) t ≡ reading (set_of set.now) (λ g. told (S.Solver.meaning solver.now).shown (forced_variable (base_of (circuit_of problem.now.circuit.now) problem.now.bound.value t) (circuit_of problem.now.circuit.now).inputs g)) }
 {
-    let mut readings = [0; 32];
-    for t in 0..tests {
-        let base = variables_before(circuit, bound, t);
-        readings[t] = read_test(solver, base, circuit.inputs(), set.gates());
+    let inputs = problem.circuit.inputs();
+    let mut readings = InlineList::none(0);
+    for t in 0..problem.tests.len() {
+        let byte = read_test(solver, problem.variables_before(t), inputs, set.as_slice());
+        let _ = readings.push(byte);
     }
     readings
 }

@@ -1,17 +1,15 @@
 // Clauses weighed against the width and the room of a solver, without handing them to it.
-ghost use Rattle.std.specs.Prelude.{◌≡◌};
 ghost use Rattle.lister.specs.Weighed.{Weighed};
 ghost use Rattle.lister.specs.WeighedLaws.{weighed_none, weighed_both};
 
 use cnf::ClauseSink;
 use solver::price;
 
-// The room that is left, and whether every clause so far fits.
+// The room that is left, or none once a clause has not fitted.
 #[derive(Drop)]
 pub(crate) struct Scale {
     pub width: usize,
-    pub room: usize,
-    pub fits: bool,
+    pub room: Option<usize>,
 }
 
 impl ClauseSink for Scale {
@@ -25,11 +23,10 @@ impl ClauseSink for Scale {
 
     fn take(&mut self, clause: &[i32]) {
         let price = price(clause.len());
-        if clause.len() > self.width || price > self.room {
-            self.fits = false;
-        } else {
-            self.room -= price;
-        }
+        self.room = match self.room {
+            Some(room) if clause.len() <= self.width && price <= room => Some(room - price),
+            _ => None,
+        };
     }
 
     fn pass(&mut self, _count: usize) -> bool {

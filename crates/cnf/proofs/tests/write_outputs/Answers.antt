@@ -1,25 +1,25 @@
--- One literal for each output that was measured.
-use Rattle.std.proofs.Common.{◌≡◌, ◌<◌, min, length, sym, arith}
+-- The clauses of the next output, and those of the ones behind it.
+use Rattle.std.proofs.Common.{◌≡◌, ◌++◌, sym, subst, ⊎_elim, inl, inr}
+use Rattle.std.specs.List.{AllByRecursion}
+use Rattle.cnf_theory.specs.Formula.{measured_clauses, output_clauses}
 use Rattle.cnf.specs.Code.{Near}
 use Rattle.cnf.proofs.Wrote.{wrote_both, wrote_as}
-use Rattle.cnf.proofs.Pieces.{all_at}
-use Rattle.cnf.proofs.Held.{output_more, output_cut}
+use Rattle.cnf.proofs.Held.{outputs_end}
 use Rattle.cnf.proofs.tests.write_outputs.Goals as goal
 
-pub write_measured-requires : goal.write_measured-requires
-write_measured-requires g c =
-    let l : c.loop-i.i < length c.args.outputs.now = omega arith in
-    record { ready = c.loop-i.invariant.0; sizes = (c.requires.sizes.0, (c.requires.sizes.1, all_at Near c.args.outputs.now c.loop-i.i _ l c.requires.near)) }
-
-pub loop-i-preserved : goal.loop-i-preserved
-loop-i-preserved g c =
+pub loop-output-preserved : goal.loop-output-preserved
+loop-output-preserved g c =
     let took = g.K.ClauseSink.took in
     let both = g.K.ClauseSink.both in
-    let a : c.loop-i.i < length c.args.outputs.now = omega arith in
-    let b : c.loop-i.i < length c.args.measured.now = omega arith in
-    (c.write_measured.ensures.ready, wrote_as took both _ _ _ _ (sym (output_more c.args.base c.args.inputs c.args.outputs.now c.args.measured.now c.loop-i.i _ _ a b)) (wrote_both took both _ _ _ _ _ c.loop-i.invariant.1 c.write_measured.ensures.took))
+    let B = c.args.variables.base in
+    let I = c.args.variables.inputs in
+    let rest = c.next.new.self in
+    let s = c.in-Some.ensures.steps in
+    let next : measured_clauses B I c.in-Some.output.now c.in-Some.value.now ++ output_clauses B I rest.a.rest.now rest.b.rest.now ≡ output_clauses B I c.loop-output.output-iterator.a.rest.now c.loop-output.output-iterator.b.rest.now = λ j. output_clauses B I (sym s.0 j) (sym s.1 j) in
+    (c.write_measured.ensures.ready, (subst (AllByRecursion Near) s.0 c.loop-output.invariant.1).1, λ t h. c.loop-output.invariant.2 t (wrote_as took both _ _ _ _ next (wrote_both took both _ _ _ _ _ c.write_measured.ensures.took h)))
 
-pub returns : goal.returns
-returns g c =
-    let e : c.loop-i.i ≡ min (length c.args.outputs.now) (length c.args.measured.now) = omega arith in
-    record { ready = c.loop-i.invariant.0; took = wrote_as g.K.ClauseSink.took g.K.ClauseSink.both _ _ _ _ (output_cut c.args.base c.args.inputs c.args.outputs.now c.args.measured.now c.loop-i.i e) c.loop-i.invariant.1 }
+pub returns-clause-took : goal.returns-clause-took
+returns-clause-took g c =
+    let left = c.loop-output.output-iterator in
+    let end = outputs_end c.args.variables.base c.args.variables.inputs left.a.rest.now left.b.rest.now (⊎_elim (λ x. inl x.1.0) (λ x. inr x.1.0) c.in-None.ensures.steps) in
+    c.loop-output.invariant.2 _ (wrote_as g.K.ClauseSink.took g.K.ClauseSink.both _ _ _ _ end (g.K.ClauseSink.none _ c.loop-output.invariant.0))

@@ -1,5 +1,5 @@
 -- The solver was begun, and took the formula and then the barring clauses.
-use Rattle.std.proofs.Common.{ℕ, ◌≤◌, map, length, sym, subst}
+use Rattle.std.proofs.Common.{ℕ, map, length, subst}
 use Rattle.circuit.specs.Held.{circuit_of}
 use Rattle.testlog.specs.Held.{tests_of}
 use Rattle.solver.specs.Meaning.{Begun}
@@ -12,17 +12,14 @@ use Rattle.gate_set.specs.Held.{sets_of}
 use Rattle.lister.proofs.Barring.{sets_numbers}
 use Rattle.lister.proofs.fill.fill.Goals as goal
 
-pub begin_with-requires : goal.begin_with-requires
-begin_with-requires g c = record { sound = c.requires.sound; capacity = subst (λ (n : ℕ). n ≤ (g.S.Solver.meaning c.args.solver.now).sizes.capacity) (sym c.variable_count.ensures) c.requires.capacity }
-
 pub write_bars-requires : goal.write_bars-requires
-write_bars-requires g c = record { ready = c.write_formula.ensures.ready; numbers = sets_numbers (length (circuit_of c.args.circuit.now).gates) _ c.requires.fits.circuit.few_gates c.requires.fits.sets }
+write_bars-requires g c = record { ready = c.write_formula.ensures.ready; numbers = sets_numbers (length (circuit_of c.args.problem.now.circuit.now).gates) _ c.requires.fits.circuit.few_gates c.requires.fits.sets }
 
 pub returns : goal.returns
 returns g c =
-    let C = circuit_of c.args.circuit.now in
-    let ts = tests_of c.args.tests.now in
-    let N = c.args.bound.value in
+    let C = circuit_of c.args.problem.now.circuit.now in
+    let ts = tests_of c.args.problem.now.tests.now in
+    let N = c.args.problem.now.bound.value in
     let given = sets_of c.args.given.now in
     let V = variables C ts N in
     let cs = added C ts N given in

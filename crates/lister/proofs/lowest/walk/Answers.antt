@@ -1,11 +1,10 @@
 -- One gate after another is decided; the gates marked are the set.
-use Rattle.std.proofs.Common.{◌≡◌, ℕ, ◌+◌, ◌<◌, ◌≤◌, Bool, true, List, length, take, set, ℤ, pos, sym, ap, ◌∙◌, subst, arith, length-set, get_or-set_same, w32, SFits, rules}
+use Rattle.std.proofs.Common.{◌≡◌, ℕ, ◌+◌, ◌<◌, ◌≤◌, Bool, true, is_ok, List, length, take, set, ℤ, sym, ap, ◌∙◌, subst, arith, length-set}
 use Rattle.std.proofs.lemmas.Bool.{leb-true}
-use Rattle.std.proofs.lemmas.Int.{to_z-of_z}
 use Rattle.diagnosis.specs.Marked.{marked}
 use Rattle.cnf_theory.specs.Literals.{integer, signed}
 use Rattle.answers.specs.Assumed.{decided, Tried, Assumed}
-use Rattle.answers.proofs.Answering.{kept_none, kept_both, assumed_none, assumed_named, assumed_more, tried_kept, untried_kept, room_left, full_tried, found_all}
+use Rattle.answers.proofs.Answering.{kept_both, assumed_named, assumed_more, tried_kept, untried_kept, room_left, full_tried, found_all}
 use Rattle.gate_set.specs.Held.{set_of}
 use Rattle.lister.proofs.SetMore.{set_joined, set_stays}
 use Rattle.lister.proofs.lowest.walk.Goals as goal
@@ -41,15 +40,6 @@ ask-requires g c =
     let st : Assumed m c.args.count c.args.gates c.loop-g.assumed = subst (λ (n : ℕ). Assumed m c.args.count n c.loop-g.assumed) e c.loop-g.invariant.2 in
     record { sound = c.loop-g.invariant.0; named = assumed_named m c.args.count c.requires.sizes.1.1.0 c.args.gates _ c.loop-g.assumed st (omega arith) (omega (arith, v, lv)) (omega (arith, v, lg)) }
 
-pub loop-g-init : goal.loop-g-init
-loop-g-init g c =
-    let fits : SFits w32 c.negated.result = search rules in (
-      c.requires.sound,
-      kept_none _,
-      assumed_none _ c.args.count c.requires.sizes.1.1.0 _ (get_or-set_same c.args.assumed.now 0 _ (pos 0) (omega arith) ∙ to_z-of_z w32 _ fits ∙ c.negated.ensures) c.requires.some,
-      c.empty-set.ensures,
-    )
-
 pub loop-g-preserved : goal.loop-g-preserved
 loop-g-preserved g c =
     let same : length c.loop-g.assumed ≡ length c.args.assumed.now = c.loop-g.auto.assumed ∙ simp length-set in
@@ -70,7 +60,7 @@ loop-g-preserved g c =
           let room = room_left m c.args.count c.args.gates c.args.most c.requires.few n (n + 1) xs (omega arith) (omega arith) l marked-too in
           let len = ap length c.loop-g.invariant.3 in
           let six = c.requires.sizes.1.1.1.1 in
-          set_joined n xs _ (set_of c.loop-g.set) (set_of c.if-decide.set) r w.push.result w.if-decide.true l is c.loop-g.invariant.3 (omega arith) w.push.ensures.value (ap set_of w.set-is ∙ w.push.ensures.after)
+          set_joined n xs _ (set_of c.loop-g.set) (set_of c.if-decide.set) r (is_ok w.push.result) w.if-decide.true l is c.loop-g.invariant.3 (omega arith) w.push.ensures.room (ap set_of w.set-is ∙ w.push.ensures.after)
       | else-decide w ↦ set_stays n xs _ (set_of c.loop-g.set) (set_of c.if-decide.set) r w.if-decide.false l is c.loop-g.invariant.3 (ap set_of w.set-is)
     ] in
     (c.decide.ensures.sound, kept_both m _ _ c.loop-g.invariant.1 c.decide.ensures.kept, subst (λ (zs : List ℤ). Assumed m c.args.count (n + 1) zs) (sym is) st, joined)

@@ -1,6 +1,0 @@
-use Rattle.std.proofs.Common.{◌*◌, ◌≤◌, length, take}
-use Rattle.dimacs.specs.Texts.{Appended, words_of}
-use Rattle.dimacs.proofs.digits.push_clause.Given as goal
-
-abbrev pub invariant-loop-literal : goal.invariant-loop-literal
-invariant-loop-literal l = Appended l.initial.text (words_of (take l.literal-index l.clause)) l.text × (length (words_of (take l.literal-index l.clause)) ≤ 12 * l.literal-index)
