@@ -2,7 +2,7 @@
 ghost use Rattle.std.specs.Prelude.{◌≡◌, ℕ, ◌<◌, length};
 ghost use Rattle.circuit.specs.Circuits.{gate_of};
 ghost use Rattle.circuit.specs.Held.{circuit_of};
-ghost use Rattle.inline_list.specs.Listed.{listed};
+ghost use Rattle.inline_list.specs.Listed.{listed, places_of};
 ghost use Rattle.evaluation.specs.Evaluated.{computed_stands, gate_stands, evaluated};
 ghost use Rattle.evaluate.specs.Forced.{forced_at, in_lane, lane_forcing};
 
@@ -63,6 +63,7 @@ pub fn evaluate<L: Logic>(
     inputs: &[L],
     forced: &[Forced<L>],
 ) -> InlineList<L, 256>
+    ensures table { length (places_of result) ≡ 256 }
     ensures len { length (listed result) ≡ length (circuit_of circuit.now).gates }
     ensures lanes { (i : ℕ) → i < L.Logic.LANES → in_lane L.Logic.stands i (listed result) ≡ evaluated (circuit_of circuit.now) (lane_forcing L.Logic.stands i forced.now) (in_lane L.Logic.stands i inputs.now) }
 {

@@ -31,7 +31,7 @@ pub struct Full;
 impl<T: Copy, const N: usize> InlineList<T, N> {
     ghost use Rattle.std.specs.Prelude.{◌≡◌, ◌++◌, ◌∷◌, [], length, is_ok, nat_lt, nat_le, take, ◌≤◌, if◌then◌else◌, slice_set, IfOk};
     ghost use Rattle.std.specs.List.{slice_get};
-    ghost use Rattle.inline_list.specs.Listed.{listed};
+    ghost use Rattle.inline_list.specs.Listed.{listed, places_of};
 
     // No value; the filler stands in the places that are not taken.
     pub fn none(filler: T) -> Self
@@ -91,6 +91,15 @@ impl<T: Copy, const N: usize> InlineList<T, N> {
         ensures { result.now ≡ listed self.now }
     {
         &self.places[..self.count]
+    }
+
+    // Every place of the list: its values first, and behind them whatever stands in the places that are not taken.
+    pub fn places(&self) -> &[T; N]
+        ensures all { result.now ≡ places_of self.now }
+        ensures whole { length (places_of self.now) ≡ N }
+        ensures front { take (length (listed self.now)) (places_of self.now) ≡ listed self.now }
+    {
+        &self.places
     }
 
     // Puts a value in the place of another, counted from 0, and gives back what stood there; none where there is no such place.

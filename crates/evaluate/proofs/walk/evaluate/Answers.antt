@@ -27,6 +27,7 @@ returns g c =
     let n = length c.gates-gates.result.now in
     let all : n ≡ length (circuit_of c.args.circuit.now).gates = gates_listed c.args.circuit.now c.gates-gates.result.now c.gates-gates.ensures in
     record {
+      table = c.first.result.whole;
       len = ap length c.first.ensures ∙ length-take-le n c.loop-i.values (omega (arith, c.loop-i.invariant.0, c.loop-i.invariant.1)) ∙ all;
       lanes = λ k h.
           ap (in_lane g.L.Logic.stands k) c.first.ensures

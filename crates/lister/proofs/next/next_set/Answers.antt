@@ -6,7 +6,8 @@ use Rattle.testlog.specs.Held.{tests_of}
 use Rattle.cnf.proofs.Held.{sound_held, gates_same}
 use Rattle.cnf_theory.specs.Variables.{variables}
 use Rattle.answers.proofs.Filling.{loaded_kept}
-use Rattle.inline_list.specs.Listed.{listed}
+use Rattle.inline_list.specs.Listed.{listed, places_of}
+use Rattle.inline_list.proofs.Few.{in_its_place}
 use Rattle.gate_set.specs.Held.{set_of, sets_of}
 use Rattle.lister.specs.NextSet.{FirstOf}
 use Rattle.lister.proofs.Barring.{sets_numbers}
@@ -106,11 +107,19 @@ returns g c =
     let a = c.in-Some.ensures in
     let first : FirstOf m (length (circuit_of C).gates) N (Some S) n = subst₂ (λ (G k : ℕ). FirstOf m G k (Some S) n) e c.value.ensures a.first in
     let ld = c.fill.ensures.loaded in
+    let R = c.read_tests-readings.result in
+    let few = c.read_tests-readings.ensures.len in
+    let read = c.read_tests-readings.ensures.value in
     record {
       refused = sym (cond-true _ _ _ yes' ∙ cond-true _ _ _ (sym c.if-not-is_enough.ensures));
       untouched = tt;
       loaded = loaded_kept _ _ _ m n ld a.kept;
       next = next_is (circuit_of C) ts N given ok _ m ld (Some S) n first;
-      readings = (c.read_tests-readings.ensures.len, found_readings (circuit_of C) ts N given ok _ m ld S n (listed c.read_tests-readings.result) first c.read_tests-readings.ensures.value);
+      readings = (
+        few,
+        found_readings (circuit_of C) ts N given ok _ m ld S n (listed R) first read,
+        R.whole,
+        found_readings (circuit_of C) ts N given ok _ m ld S n (places_of R) first (λ t l. in_its_place R t 0 (omega (arith, few, l)) ∙ read t l),
+      );
       sound = a.sound;
     }
