@@ -15,6 +15,7 @@ use crate::sink::ClauseSink;
 use crate::tally::Tally;
 use crate::tests::write_test;
 use crate::variables::TestVariables;
+use circuit::Circuit;
 
 // The marks and counts of so many gates, and the variables of so many tests.
 fn marks_and_tests(gates: usize, inputs: usize, bound: Bound, tests: usize) -> usize
@@ -23,6 +24,15 @@ fn marks_and_tests(gates: usize, inputs: usize, bound: Bound, tests: usize) -> u
     ensures small { result ≤ 90000 }
 {
     gates * (bound.value() + 2) + tests * (inputs + gates * 3)
+}
+
+// The variables before those of a test, counted from 0; there are at most 32 tests. They are the same whatever the tests are.
+pub fn variables_before(circuit: &Circuit, bound: Bound, test: usize) -> usize
+    ensures value { result ≡ base (circuit_of circuit.now) bound.value (min test 32) }
+    ensures small { result ≤ 90000 }
+{
+    let gates = circuit.gates().len();
+    marks_and_tests(gates, circuit.inputs(), bound, test.min(32))
 }
 
 impl Problem<'_> {
@@ -48,7 +58,7 @@ impl Problem<'_> {
         ensures value { result ≡ base (circuit_of self.now.circuit.now) self.now.bound.value (min test 32) }
         ensures small { result ≤ 90000 }
     {
-        self.test_base(test.min(32))
+        variables_before(self.circuit, self.bound, test)
     }
 
     // The tests, each with its number.

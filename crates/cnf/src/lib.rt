@@ -16,6 +16,7 @@ mod tests;
 mod variables;
 
 pub use bound::Bound;
+pub use formula::variables_before;
 pub use literal::{Literal, Variable};
 pub use problem::Problem;
 pub use sink::ClauseSink;
