@@ -4,6 +4,8 @@
 --   Placed      that a sign stands at its place
 --   Scanned     what the token at a place of a line is, and the place behind it
 --   ahead       the words and signs still to come
+--   remains     how many bytes are still to come
+--   Stepped     what one step of a scanner leaves and gives
 use Rattle.std.specs.Prelude.{◌≡◌, ℕ, ◌<◌, ◌≤◌, List, [], ◌∷◌, length, drop, Some, None, Ok, Err, Option, Result, slice_index}
 use Rattle.netlist_text.specs.Words.{Lexeme, word, sign, lexemes}
 use Rattle.scanner.specs.declared.token.Token.{Token}
@@ -35,3 +37,10 @@ Scanned l at (Some x) = (lexemes (drop at l) ≡ lexeme_of x.0 ∷ lexemes (drop
 
 abbrev pub ahead : Scanner → List Lexeme
 ahead s = lexemes (drop s.at s.line.now)
+
+abbrev pub remains : Scanner → ℕ
+remains s = length (drop s.at s.line.now)
+
+abbrev pub Stepped : Scanner → Scanner → Option Token → Type 0
+Stepped s u None = (ahead s ≡ []) × (ahead u ≡ []) × (u.line.now ≡ s.line.now)
+Stepped s u (Some t) = (ahead s ≡ lexeme_of t ∷ ahead u) × (remains u < remains s) × (u.line.now ≡ s.line.now) × Placed s.line.now t

@@ -15,6 +15,21 @@ pub struct Scanner<'a> {
     ghost within: { at ≤ length line.now },
 }
 
+impl<'a> Scanner<'a> {
+    ghost use Rattle.scanner.specs.Scanned.{Stepped};
+
+    // The next word or sign, if there is one; the line stays, and a sign has its place in it.
+    fn next_token(&mut self) -> Option<Token<'a>>
+        ensures { Stepped self.old self.new result }
+    {
+        let line = self.line;
+        let front = self.at + space_len(&line[self.at..]);
+        let (token, behind) = token_at(line, front)?;
+        self.at = behind;
+        Some(token)
+    }
+}
+
 impl<'a> Iterator for Scanner<'a> {
     ghost use Rattle.std.specs.Iterator.{YieldsFirstBy, item_count};
     ghost use Rattle.scanner.specs.Scanned.{ahead, lexeme_of};
@@ -26,10 +41,6 @@ impl<'a> Iterator for Scanner<'a> {
     ghost remaining = { item_count ahead };
 
     fn next(&mut self) -> Option<Token<'a>> {
-        let line = self.line;
-        let front = self.at + space_len(&line[self.at..]);
-        let (token, behind) = token_at(line, front)?;
-        self.at = behind;
-        Some(token)
+        self.next_token()
     }
 }
