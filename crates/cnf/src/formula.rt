@@ -42,8 +42,7 @@ impl Problem<'_> {
         ensures value { result ≡ base (circuit_of self.now.circuit.now) self.now.bound.value test }
         ensures small { result ≤ 90000 }
     {
-        let gates = self.circuit.gates().len();
-        marks_and_tests(gates, self.circuit.inputs(), self.bound, test)
+        self.variables_before(test)
     }
 
     // How many variables the formula has.
